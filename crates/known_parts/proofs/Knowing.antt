@@ -15,6 +15,7 @@ use Rattle.wire_model.specs.Answering.{FaultsOrNoMemory, FaultsExactly, AnswersO
 use Rattle.wire_model.specs.AtPlace.{passed_over}
 use Rattle.wire_model.specs.Decoder.{Unread, go_on, give}
 use Rattle.wire_model.specs.Place.{placed}
+use Rattle.wire_model.specs.Wire.{IsScalar}
 use Rattle.wire_walk.proofs.Faults.{fails_same, fails_told, fails_on}
 use Rattle.wire_walk.proofs.PassedOver.{Reading, faults_by}
 use Rattle.known_parts.specs.Known.{known, known_fields, known_items, known_pairs}
@@ -192,3 +193,12 @@ same_tags a b e = sym (its_rank a) ∙ ap tag_at_rank (eqb-true (rank a) (rank b
 -- a fault has no place
 pub placed_fails : (size : ℕ) (fault : WireFault) (r : Reading Tree) → FaultsOrNoMemory fault r → FaultsOrNoMemory fault (placed size r)
 placed_fails size fault r h = fails_alike fault r (placed size r) (λ f e. ap (placed size) e) h
+
+-- a tag that is none of these is of a value that holds no others
+pub is_scalar : (t : Tag) → (t ≡ tags.Bytes → ⊥) → (t ≡ tags.Struct → ⊥) → (t ≡ tags.Map → ⊥) → (t ≡ tags.Set → ⊥) → (t ≡ tags.List → ⊥) → IsScalar t
+is_scalar tags.Bytes none _ _ _ _ = absurd (none refl)
+is_scalar tags.Struct _ none _ _ _ = absurd (none refl)
+is_scalar tags.Map _ _ none _ _ = absurd (none refl)
+is_scalar tags.Set _ _ _ none _ = absurd (none refl)
+is_scalar tags.List _ _ _ _ none = absurd (none refl)
+is_scalar _ _ _ _ _ _ = tt

@@ -16,7 +16,7 @@ use Rattle.wire_walk.specs.Walked.{elements}
 use Rattle.known_parts.specs.Known.{known, known_items}
 use Rattle.known_parts.specs.KnownAt.{read_seen}
 use Rattle.known_parts.specs.Parts.{tag_of_kind, are_same_tags}
-use Rattle.known_parts.proofs.Knowing.{seen_fails, step_fails, is_too_deep, seen_alike, answers_alike, struct_seen, map_seen, elements_seen, set_seen, list_seen, kind_seen, tag_unknown, leaf_known, text_seen, same_tags}
+use Rattle.known_parts.proofs.Knowing.{is_scalar, seen_fails, step_fails, is_too_deep, seen_alike, answers_alike, struct_seen, map_seen, elements_seen, set_seen, list_seen, kind_seen, tag_unknown, leaf_known, text_seen, same_tags}
 use Rattle.known_parts.proofs.KnownElements.{known_items_begin, known_items_fail, known_items_step, known_items_misfit, known_items_misfit_fail, known_items_end}
 use Rattle.known_parts.proofs.KnownPairs.{known_pairs_begin, known_key_fails, known_value_fails, known_pairs_step, known_pairs_misfit, known_pairs_misfit_fail, known_pairs_end}
 use Rattle.known_parts.proofs.KnownFields.{known_fields_begin, known_head_fails, known_part_fails, known_field_step, known_fields_end, known_fields_run_out, flag_fails_known, flag_known, value_known, value_undeclared}
@@ -263,3 +263,59 @@ known_elements-returns g t c =
     (elements_seen (schema_of c.args.schema.now) (kind_of c.args.kind.now) c.in_ok-tag.tag _ _
     (sym (on_ok (g.W.WireProtocol.wire.items c.args.rest) _ (c.in_ok-tag.tag, c.in_ok-tag.count) c.in_ok-tag.rest c.in_ok-tag.ensures) ∙ elements_held g.W.WireProtocol.wire c.args.levels c.in_ok-levels.levels c.args.rest c.in_ok-levels.ensures))
     c.known_items.ensures
+
+-- what each call requires of those that it is made of
+
+pub known_value-known_struct-requires : goal.known_value-known_struct-requires
+known_value-known_struct-requires g t c κs within =
+    (omega (arith, c.decreases), (search rules, (c.requires.sound, c.requires.levels)))
+
+pub known_value-known_map-requires : goal.known_value-known_map-requires
+known_value-known_map-requires g t c κs within =
+    (omega (arith, c.decreases), (search rules, (c.requires.sound, c.requires.levels)))
+
+pub known_value-known_elements-requires : goal.known_value-known_elements-requires
+known_value-known_elements-requires g t c κs within =
+    (omega (arith, c.decreases), (search rules, (c.requires.sound, c.requires.levels)))
+
+pub known_value-known_elements-requires-in-List : goal.known_value-known_elements-requires-in-List
+known_value-known_elements-requires-in-List g t c κs within =
+    (omega (arith, c.decreases), (search rules, (c.requires.sound, c.requires.levels)))
+
+pub known_struct-known_fields-requires : goal.known_struct-known_fields-requires
+known_struct-known_fields-requires g t c κs within =
+    let low : c.args.levels ≡ suc c.in_ok-levels.levels = c.in_ok-levels.ensures in
+    (omega (arith, c.decreases, low), (search rules, (c.requires.sound, omega (arith, c.requires.levels, low))))
+
+pub known_map-known_pairs-requires : goal.known_map-known_pairs-requires
+known_map-known_pairs-requires g t c κs within =
+    let low : c.args.levels ≡ suc c.in_ok-levels.levels = c.in_ok-levels.ensures in
+    (omega (arith, c.decreases, low), (search rules, (c.requires.sound, omega (arith, c.requires.levels, low))))
+
+pub known_elements-known_items-requires : goal.known_elements-known_items-requires
+known_elements-known_items-requires g t c κs within =
+    let low : c.args.levels ≡ suc c.in_ok-levels.levels = c.in_ok-levels.ensures in
+    (omega (arith, c.decreases, low), (search rules, (c.requires.sound, omega (arith, c.requires.levels, low))))
+
+pub known_field-known_value-requires : goal.known_field-known_value-requires
+known_field-known_value-requires g t c κs within =
+    (omega (arith, c.decreases), (search rules, (c.requires.sound, c.requires.levels)))
+
+pub known_fields-known_field-requires : goal.known_fields-known_field-requires
+known_fields-known_field-requires g t c κs within =
+    (omega (arith, c.decreases), (search rules, (c.requires.sound, c.requires.levels)))
+
+pub known_items-known_value-requires : goal.known_items-known_value-requires
+known_items-known_value-requires g t c κs within =
+    (omega (arith, c.decreases), (search rules, (c.requires.sound, c.requires.levels)))
+
+pub known_pairs-known_value-requires : goal.known_pairs-known_value-requires
+known_pairs-known_value-requires g t c κs within =
+    (omega (arith, c.decreases), (search rules, (c.requires.sound, c.requires.levels)))
+
+pub known_pairs-known_value-requires-in-loop-step : goal.known_pairs-known_value-requires-in-loop-step
+known_pairs-known_value-requires-in-loop-step g t c κs within =
+    (omega (arith, c.decreases), (search rules, (c.requires.sound, c.requires.levels)))
+
+pub known_value-known_number-requires : goal.known_value-known_number-requires
+known_value-known_number-requires g t c = is_scalar c.args.tag c.in_default.not-Bytes c.in_default.not-Struct c.in_default.not-Map c.in_default.not-Set c.in_default.not-List
