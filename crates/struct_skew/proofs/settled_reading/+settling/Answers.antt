@@ -1,16 +1,17 @@
 use Rattle.std.proofs.Common.{◌≡◌, ℤ, suc, ◌+◌, ◌-◌, ◌∙◌, map, Ok, sym, ap, subst, arith, rules, FitsSigned, to_z, of_z}
 use Rattle.std.specs.Int.{w16}
-use Rattle.std.specs.Prelude.{IfSome}
+use Rattle.std.specs.Prelude.{◌<ℤ◌, AllPairs, IfSome}
 use Rattle.std.proofs.lemmas.Int.{to_z-of_z}
 use Rattle.std.proofs.lemmas.Option.{IfSome_then}
 use Rattle.thrift_value.specs.declared.tag.Tag.TheVariants.{Bytes}
 use Rattle.thrift_value.specs.TreeOf.{tree_of}
 use Rattle.schema.specs.PlainKind.{kind_of}
+use Rattle.schema.specs.PlainSchema.{PlainField}
 use Rattle.schema.specs.SchemaOf.{schema_of, plain_field, plain_struct}
 use Rattle.wire_model.specs.declared.one_pass.FieldHead.TheVariants.{Field}
 use Rattle.wire_model.specs.AtPlace.{head_of}
 use Rattle.known_parts.specs.Parts.{tag_of_kind, are_same_tags}
-use Rattle.known_parts.proofs.Knowing.{same_tags}
+use Rattle.known_parts.proofs.Knowing.{is_scalar, same_tags}
 use Rattle.struct_skew.specs.Latest.{IsRisingBy}
 use Rattle.struct_skew.specs.Orders.{value_cmp, pair_cmp}
 use Rattle.struct_skew.specs.ReadSettled.{ReadsFields, ReadsSettled}
@@ -157,3 +158,67 @@ pub settled_pairs-loop-step-init : goal.settled_pairs-loop-step-init
 settled_pairs-loop-step-init g t c =
     pairs_kept_begin g.W.WireProtocol.wire c.args.levels (schema_of c.args.schema.now).structs (kind_of c.args.key_kind.now) (kind_of c.args.value_kind.now) c.in_ok-pairs.pairs.items _ c.args.count c.args.ahead.now
     c.in_ok-pairs.ensures (omega arith)
+
+-- what each call requires of those that it is made of
+
+pub settled_value-settled_struct-requires : goal.settled_value-settled_struct-requires
+settled_value-settled_struct-requires g t c κs within =
+    (omega (arith, c.decreases), (search rules, (c.requires.sound, c.requires.needed)))
+
+pub settled_value-settled_map-requires : goal.settled_value-settled_map-requires
+settled_value-settled_map-requires g t c κs within =
+    (omega (arith, c.decreases), (search rules, (c.requires.sound, c.requires.needed)))
+
+pub settled_value-settled_set-requires : goal.settled_value-settled_set-requires
+settled_value-settled_set-requires g t c κs within =
+    (omega (arith, c.decreases), (search rules, (c.requires.sound, c.requires.needed)))
+
+pub settled_value-settled_list-requires : goal.settled_value-settled_list-requires
+settled_value-settled_list-requires g t c κs within =
+    (omega (arith, c.decreases), (search rules, (c.requires.sound, c.requires.needed)))
+
+pub settled_list-settled_elements-requires : goal.settled_list-settled_elements-requires
+settled_list-settled_elements-requires g t c κs within =
+    (omega (arith, c.decreases), (search rules, (c.requires.sound, c.requires.needed)))
+
+pub settled_set-settled_elements-requires : goal.settled_set-settled_elements-requires
+settled_set-settled_elements-requires g t c κs within =
+    (omega (arith, c.decreases), (search rules, (c.requires.sound, c.requires.needed)))
+
+pub settled_fields-settled_field-requires : goal.settled_fields-settled_field-requires
+settled_fields-settled_field-requires g t c κs within =
+    (omega (arith, c.decreases), (search rules, (c.requires.sound, c.requires.needed)))
+
+pub settled_map-settled_pairs-requires : goal.settled_map-settled_pairs-requires
+settled_map-settled_pairs-requires g t c κs within =
+    (omega (arith, c.decreases, told _ _ c.deeper.result c.in_ok-levels.levels c.in_ok-levels.ensures.value c.deeper.ensures), (search rules, (c.requires.sound, c.requires.needed)))
+
+pub settled_elements-settled_value-requires : goal.settled_elements-settled_value-requires
+settled_elements-settled_value-requires g t c κs within =
+    (omega (arith, c.decreases, told _ _ c.deeper.result c.in_ok-levels.levels c.in_ok-levels.ensures.value c.deeper.ensures), (search rules, (c.requires.sound, (c.requires.needed, sym (same_tags (tag_of_kind (kind_of c.args.kind.now)) c.in_ok-tag.tag (c.if-not-are_same_tags.ensures ∙ ap (λ a. are_same_tags a c.in_ok-tag.tag) c.tag_of_kind.ensures))))))
+
+pub settled_field-settled_value-requires : goal.settled_field-settled_value-requires
+settled_field-settled_value-requires g t c κs within =
+    (omega (arith, c.decreases), (search rules, (c.requires.sound, (c.requires.needed, sym (same_tags (tag_of_kind (kind_of c.args.kind.now)) c.args.tag (c.if-not-are_same_tags.ensures ∙ ap (λ a. are_same_tags a c.args.tag) c.tag_of_kind.ensures))))))
+
+pub settled_pairs-settled_value-requires : goal.settled_pairs-settled_value-requires
+settled_pairs-settled_value-requires g t c κs within =
+    (omega (arith, c.decreases), (search rules, (c.requires.sound, (c.requires.needed, c.tag_of_kind-key_tag.ensures))))
+
+pub settled_pairs-settled_value-requires-in-loop-step : goal.settled_pairs-settled_value-requires-in-loop-step
+settled_pairs-settled_value-requires-in-loop-step g t c κs within =
+    (omega (arith, c.decreases), (search rules, (c.requires.sound, (c.requires.needed, c.tag_of_kind-value_tag.ensures))))
+
+pub settled_value-settled_number-requires : goal.settled_value-settled_number-requires
+settled_value-settled_number-requires g t c =
+    is_scalar c.args.tag c.in_default.not-Bytes c.in_default.not-Struct c.in_default.not-Map c.in_default.not-Set c.in_default.not-List
+
+pub settled_struct-has_all-requires : goal.settled_struct-has_all-requires
+settled_struct-has_all-requires g t c = let at = c.in_ok-desc.ensures in at.needed
+
+pub settled_struct-settled_fields-requires : goal.settled_struct-settled_fields-requires
+settled_struct-settled_fields-requires g t c κs within =
+    let at = c.in_ok-desc.ensures in (
+      omega (arith, c.decreases, told _ _ c.deeper.result c.in_ok-levels.levels c.in_ok-levels.ensures.value c.deeper.ensures),
+      (search rules, (c.requires.sound, (c.requires.needed, subst (λ ds. AllPairs (λ (f g : PlainField). f.id <ℤ g.id) (map plain_field ds)) (sym c.as_slice.ensures) at.rising))),
+    )
