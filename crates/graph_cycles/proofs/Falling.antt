@@ -52,10 +52,3 @@ goes_on graph between i last start end within edge so_far walk =
     let P : List ℕ → Type 0 = λ rest. Walk graph last rest end in
     so_far (subst P (sym (drop-cons between i 0 within ∙ ap (λ n. slice_index between i ∷ drop n between) (let e : suc i ≡ i + 1 = omega arith in e)))
     (edge, walk))
-
--- the same of labels that were read twice
-pub no_cycle_of_same : (graph : Graph) (labels again : List ℕ) → labels ≡ again → (count : ℕ) → RisesNowhere graph labels → FallsBefore graph again count
-    → (a : ℕ) → a < count → OnCycle graph a → ⊥
-no_cycle_of_same graph labels again e count rises falls a within cycle =
-    let P : List ℕ → Type 0 = λ xs. RisesNowhere graph xs in
-    no_cycle graph again count (subst P e rises) falls a within cycle

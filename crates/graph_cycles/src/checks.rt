@@ -4,11 +4,11 @@ ghost use Rattle.std.specs.List.{list_all, Contains};
 ghost use Rattle.graph_cycles.specs.Walks.{Walk, IsEdge};
 ghost use Rattle.graph_cycles.specs.Certified.{RisesNowhere, FallsBefore, LeadsNoHigher, LeadsLower};
 
-// The label of a node; 0 where it has none.
-fn label_of(labels: &[u32], node: u32) -> u32
+// The label of a node by its place; 0 where it has none.
+fn label_at(labels: &[u32], node: usize) -> u32
     ensures { result ≡ slice_index labels.now node }
 {
-    match labels.get(node as usize) {
+    match labels.get(node) {
         Some(label) => *label,
         None => 0,
     }
@@ -18,24 +18,16 @@ fn label_of(labels: &[u32], node: u32) -> u32
 fn leads_no_higher(labels: &[u32], bound: u32, row: &[u32]) -> bool
     ensures { result ≡ list_all (λ node. nat_le (slice_index labels.now node) bound) row.now }
 {
-    row.iter().all(|node| label_of(labels, *node) <= bound)
+    row.iter()
+        .all(|node| label_at(labels, *node as usize) <= bound)
 }
 
 // Whether each edge of a row leads to a label below this one.
 fn leads_lower(labels: &[u32], bound: u32, row: &[u32]) -> bool
     ensures { result ≡ list_all (λ node. nat_lt (slice_index labels.now node) bound) row.now }
 {
-    row.iter().all(|node| label_of(labels, *node) < bound)
-}
-
-// The label of a node by its place; 0 where it has none.
-fn label_at(labels: &[u32], node: usize) -> u32
-    ensures { result ≡ slice_index labels.now node }
-{
-    match labels.get(node) {
-        Some(label) => *label,
-        None => 0,
-    }
+    row.iter()
+        .all(|node| label_at(labels, *node as usize) < bound)
 }
 
 /// Whether no label rises along an edge.

@@ -1,14 +1,7 @@
 //! The way from a node back to it, over nodes of its label.
 
+use crate::numbers::{at, put};
 use std::alloc::{AllocError, Global};
-
-// The number at a place; the greatest where there is none.
-fn parent_of(parents: &[u32], node: u32) -> u32 {
-    match parents.get(node as usize) {
-        Some(parent) => *parent,
-        None => u32::MAX,
-    }
-}
 
 // The row of a node; empty where it has none.
 fn row_of(graph: &[Vec<u32>], node: u32) -> &[u32] {
@@ -18,7 +11,19 @@ fn row_of(graph: &[Vec<u32>], node: u32) -> &[u32] {
     }
 }
 
-// Each node of the label that a row leads to, and that wasn't met before, is met from this one. Tells whether one leads to `goal`.
+// Whether a node has this label, and wasn't met before: then it is met from another one.
+fn is_new(parents: &mut [u32], labels: &[u32], label: u32, node: u32, parent: u32) -> bool {
+    if at(labels, node) != label {
+        return false;
+    }
+    if at(parents, node) != u32::MAX {
+        return false;
+    }
+    put(parents, node, parent);
+    true
+}
+
+// Each new node of the label to which a row leads is met from this one. Tells whether one leads to `goal`.
 fn spread(
     row: &[u32],
     labels: &[u32],
@@ -27,36 +32,72 @@ fn spread(
     parents: &mut [u32],
     queue: &mut Vec<u32>,
 ) -> Result<bool, AllocError> {
+    let label = at(labels, goal);
     for next in row.iter() {
-        let next = *next;
-        if next == goal {
+        if *next == goal {
             return Ok(true);
         }
-        if labels.get(next as usize) == labels.get(goal as usize)
-            && parent_of(parents, next) == u32::MAX
-        {
-            if let Some(parent) = parents.get_mut(next as usize) {
-                *parent = node;
-            }
-            queue.push(next)?;
+        if is_new(parents, labels, label, *next, node) {
+            queue.push(*next)?;
         }
     }
     Ok(false)
 }
 
-// The nodes from `goal` to `last`, both left out where they are `goal`, by their parents.
-fn unwound(alloc: Global, parents: &[u32], goal: u32, last: u32) -> Result<Vec<u32>, AllocError> {
-    let mut way = Vec::new(alloc);
+// The node from which an edge leads to `goal`, as the queue comes to it.
+fn last_node(
+    graph: &[Vec<u32>],
+    labels: &[u32],
+    goal: u32,
+    parents: &mut [u32],
+    queue: &mut Vec<u32>,
+) -> Result<u32, AllocError> {
+    for place in 0..graph.len() {
+        let Some(node) = queue.as_slice().get(place).copied() else {
+            return Ok(goal);
+        };
+        if spread(row_of(graph, node), labels, node, goal, parents, queue)? {
+            return Ok(node);
+        }
+    }
+    Ok(goal)
+}
+
+// The same from an empty queue.
+fn last_by(
+    alloc: Global,
+    graph: &[Vec<u32>],
+    labels: &[u32],
+    goal: u32,
+    parents: &mut [u32],
+) -> Result<u32, AllocError> {
+    let mut queue = vec![in alloc; goal; 1]?;
+    last_node(graph, labels, goal, parents, &mut queue)
+}
+
+// Appends the nodes from `last` back to `goal`, which is left out, by their parents.
+fn put_way(way: &mut Vec<u32>, parents: &[u32], goal: u32, last: u32) -> Result<(), AllocError> {
     let mut node = last;
     for _ in 0..parents.len() {
         if node == goal {
             break;
         }
         way.push(node)?;
-        node = parent_of(parents, node);
+        node = at(parents, node);
     }
-    way.as_mut_slice().reverse();
-    Ok(way)
+    Ok(())
+}
+
+// The nodes from `goal`, which is left out, to `last`.
+fn unwound(alloc: Global, parents: &[u32], goal: u32, last: u32) -> Result<Vec<u32>, AllocError> {
+    let mut way = Vec::new(alloc);
+    match put_way(&mut way, parents, goal, last) {
+        Ok(()) => {
+            way.as_mut_slice().reverse();
+            Ok(way)
+        }
+        Err(fault) => Err(fault),
+    }
 }
 
 /// The nodes over which edges lead from a node back to it, as far as they are found.
@@ -67,18 +108,8 @@ pub(crate) fn way_back(
     goal: u32,
 ) -> Result<Vec<u32>, AllocError> {
     let mut parents = vec![in alloc; u32::MAX; graph.len()]?;
-    let mut queue = Vec::new(alloc);
-    queue.push(goal)?;
-    for at in 0..graph.len() {
-        match queue.as_slice().get(at).copied() {
-            None => return Ok(Vec::new(alloc)),
-            Some(node) => {
-                let row = row_of(graph, node);
-                if spread(row, labels, node, goal, parents.as_mut_slice(), &mut queue)? {
-                    return unwound(alloc, parents.as_slice(), goal, node);
-                }
-            }
-        }
+    match last_by(alloc, graph, labels, goal, parents.as_mut_slice()) {
+        Ok(last) => unwound(alloc, parents.as_slice(), goal, last),
+        Err(fault) => Err(fault),
     }
-    Ok(Vec::new(alloc))
 }

@@ -1,126 +1,114 @@
 //! A label for each node, so that none rises along an edge and nodes of one label lead to one another.
 
+use crate::numbers::{at, put};
 use std::alloc::{AllocError, Global};
 
-// The search for strongly connected parts (Tarjan), without recursion.
+// The search for strongly connected parts (Pearce), without recursion. A node's number is 0 until it is met; then it tells in which order, from 1, or how
+// early a node is to which it leads; and in the end it is its part's, from the greatest but one down.
 #[derive(Drop)]
 struct Parts {
-    // In which order a node was met, from 1; 0 where it wasn't.
-    order: Vec<u32>,
-    // The earliest node, by order, that was found to be led to.
-    low: Vec<u32>,
-    // The number of a node's part, from 1; 0 while it has none.
-    label: Vec<u32>,
-    // The nodes that were met and have no part yet.
+    // The nodes whose edges were followed, and that have no part yet.
     open: Vec<u32>,
-    // The nodes that are being looked at, each with the number of its next edge.
-    calls: Vec<(u32, usize)>,
-    // How many nodes were met, and how many parts there are.
+    // The nodes that are being looked at, each with the number at which it was met, and that of its next edge.
+    calls: Vec<(u32, u32, usize)>,
+    // How many nodes were met.
     met: u32,
-    parts: u32,
+    // The number of the next part.
+    part: u32,
 }
 
-// The number at a place; 0 where there is none.
-fn at(numbers: &[u32], place: u32) -> u32 {
-    match numbers.get(place as usize) {
-        Some(number) => *number,
-        None => 0,
+// Takes the last of the open nodes, if it was met behind the one with this number.
+fn taken(open: &mut Vec<u32>, numbers: &[u32], number: u32) -> Option<u32> {
+    match open.as_slice().last().copied() {
+        Some(last) if at(numbers, last) >= number => open.pop(),
+        _ => None,
     }
-}
-
-// Another number at a place, if there is one.
-fn put(numbers: &mut [u32], place: u32, number: u32) {
-    if let Some(old) = numbers.get_mut(place as usize) {
-        *old = number;
-    }
-}
-
-// A smaller number at a place, if there is one.
-fn lower(numbers: &mut [u32], place: u32, number: u32) {
-    if number < at(numbers, place) {
-        put(numbers, place, number);
-    }
-}
-
-// Makes so many zeros.
-fn zeros(alloc: Global, count: usize) -> Result<Vec<u32>, AllocError> {
-    vec![in alloc; 0u32; count]
 }
 
 impl Parts {
-    fn meet(&mut self, node: u32) -> Result<(), AllocError> {
+    fn meet(&mut self, numbers: &mut [u32], node: u32) -> Result<(), AllocError> {
         self.met = self.met.wrapping_add(1);
-        put(self.order.as_mut_slice(), node, self.met);
-        put(self.low.as_mut_slice(), node, self.met);
-        self.open.push(node)?;
-        self.calls.push((node, 0))?;
+        put(numbers, node, self.met);
+        self.calls.push((node, self.met, 0))?;
         Ok(())
     }
 
-    // A node that an edge leads to: it is met, or it tells how early one comes back.
-    fn follow(&mut self, node: u32, next: u32) -> Result<(), AllocError> {
-        let order = at(self.order.as_slice(), next);
-        if order == 0 {
-            return self.meet(next);
+    // Follows an edge of a node: where it leads is met, and then tells how early one comes back.
+    fn follow(
+        &mut self,
+        numbers: &mut [u32],
+        call: (u32, u32, usize),
+        next: u32,
+    ) -> Result<(), AllocError> {
+        let (node, number, edge) = call;
+        let earliest = at(numbers, next);
+        if earliest == 0 {
+            self.calls.push(call)?;
+            return self.meet(numbers, next);
         }
-        if at(self.label.as_slice(), next) == 0 {
-            lower(self.low.as_mut_slice(), node, order);
+        if earliest < at(numbers, node) {
+            put(numbers, node, earliest);
         }
+        self.calls.push((node, number, edge.wrapping_add(1)))?;
         Ok(())
     }
 
-    // The open nodes down to this one become a part.
-    fn close(&mut self, node: u32) {
-        self.parts = self.parts.wrapping_add(1);
-        for _ in 0..self.order.len() {
-            match self.open.pop() {
-                Some(last) => {
-                    put(self.label.as_mut_slice(), last, self.parts);
-                    if last == node {
-                        return;
-                    }
-                }
-                None => return,
+    // The open nodes that were met behind a node become a part with it.
+    fn close(&mut self, numbers: &mut [u32], node: u32, number: u32) {
+        put(numbers, node, self.part);
+        for _ in 0..self.open.len() {
+            match taken(&mut self.open, numbers, number) {
+                Some(last) => put(numbers, last, self.part),
+                None => break,
             }
         }
+        self.part = self.part.wrapping_sub(1);
     }
 
     // A node all of whose edges were followed.
-    fn leave(&mut self, node: u32) {
-        let low = at(self.low.as_slice(), node);
-        if low == at(self.order.as_slice(), node) {
-            self.close(node);
+    fn leave(&mut self, numbers: &mut [u32], node: u32, number: u32) -> Result<(), AllocError> {
+        if at(numbers, node) == number {
+            self.close(numbers, node, number);
+            return Ok(());
         }
-        if let Some((above, edge)) = self.calls.pop() {
-            lower(self.low.as_mut_slice(), above, low);
-            let _full = self.calls.push((above, edge));
-        }
+        self.open.push(node)?;
+        Ok(())
     }
 
-    // Goes one step; false where no node is being looked at.
-    fn step(&mut self, graph: &[Vec<u32>]) -> Result<bool, AllocError> {
-        match self.calls.pop() {
-            None => Ok(false),
-            Some((node, edge)) => {
-                match next_node(graph, node, edge) {
-                    Some(next) => {
-                        self.calls.push((node, edge.wrapping_add(1)))?;
-                        if (next as usize) < graph.len() {
-                            self.follow(node, next)?;
-                        }
-                    }
-                    None => self.leave(node),
-                }
-                Ok(true)
-            }
+    // Goes one step.
+    fn step(
+        &mut self,
+        graph: &[Vec<u32>],
+        numbers: &mut [u32],
+        call: (u32, u32, usize),
+    ) -> Result<(), AllocError> {
+        let (node, number, edge) = call;
+        match next_node(graph, node, edge) {
+            Some(next) => self.follow(numbers, call, next),
+            None => self.leave(numbers, node, number),
         }
     }
 
     // Steps until no node is being looked at.
-    fn finish(&mut self, graph: &[Vec<u32>]) -> Result<(), AllocError> {
+    fn finish(&mut self, graph: &[Vec<u32>], numbers: &mut [u32]) -> Result<(), AllocError> {
         for _ in 0..u64::MAX {
-            if !self.step(graph)? {
-                break;
+            match self.calls.pop() {
+                Some(call) => self.step(graph, numbers, call)?,
+                None => break,
+            }
+        }
+        Ok(())
+    }
+
+    // Meets all nodes of a graph.
+    fn meet_all(&mut self, graph: &[Vec<u32>], numbers: &mut [u32]) -> Result<(), AllocError> {
+        let Ok(count) = u32::try_from(numbers.len()) else {
+            return Err(AllocError);
+        };
+        for root in 0..count {
+            if at(numbers, root) == 0 {
+                self.meet(numbers, root)?;
+                self.finish(graph, numbers)?;
             }
         }
         Ok(())
@@ -135,25 +123,32 @@ fn next_node(graph: &[Vec<u32>], node: u32, edge: usize) -> Option<u32> {
     }
 }
 
-/// The labels of a graph's nodes: numbers from 1, or 0 where the search didn't end.
-pub(crate) fn labels(alloc: Global, graph: &[Vec<u32>]) -> Result<Vec<u32>, AllocError> {
+// The nodes get the numbers of their parts.
+fn number_parts(alloc: Global, graph: &[Vec<u32>], numbers: &mut [u32]) -> Result<(), AllocError> {
     let mut parts = Parts {
-        order: zeros(alloc, graph.len())?,
-        low: zeros(alloc, graph.len())?,
-        label: zeros(alloc, graph.len())?,
         open: Vec::new(alloc),
         calls: Vec::new(alloc),
         met: 0,
-        parts: 0,
+        part: u32::MAX - 1,
     };
-    for root in 0..graph.len() {
-        let Ok(root) = u32::try_from(root) else {
-            return Err(AllocError);
-        };
-        if at(parts.order.as_slice(), root) == 0 {
-            parts.meet(root)?;
-            parts.finish(graph)?;
-        }
+    parts.meet_all(graph, numbers)
+}
+
+// The greatest number becomes 0, the one below it 1, and so on.
+fn turn(numbers: &mut [u32]) {
+    for place in 0..numbers.len() {
+        numbers[place] = u32::MAX - numbers[place];
     }
-    Ok(parts.label)
+}
+
+/// The labels of a graph's nodes: numbers from 1.
+pub(crate) fn labels(alloc: Global, graph: &[Vec<u32>]) -> Result<Vec<u32>, AllocError> {
+    let mut numbers = vec![in alloc; 0u32; graph.len()]?;
+    match number_parts(alloc, graph, numbers.as_mut_slice()) {
+        Ok(()) => {
+            turn(numbers.as_mut_slice());
+            Ok(numbers)
+        }
+        Err(fault) => Err(fault),
+    }
 }

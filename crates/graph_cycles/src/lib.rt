@@ -16,6 +16,7 @@ mod checks;
 mod cycle;
 mod labels;
 pub mod laws;
+mod numbers;
 
 use checks::{first_level, is_cycle, rises_nowhere};
 use cycle::way_back;
@@ -26,16 +27,23 @@ pub fn first_on_cycle(alloc: Global, graph: &[Vec<u32>]) -> Result<Option<u32>, 
     ensures { IfOk result (λ found. IsLowest (OnCycle (map (λ row. row.items) graph.now)) found) }
 {
     let labels = labels(alloc, graph)?;
-    if !rises_nowhere(graph, labels.as_slice()) {
+    first_by(alloc, graph, labels.as_slice())
+}
+
+// The same by labels.
+fn first_by(alloc: Global, graph: &[Vec<u32>], labels: &[u32]) -> Result<Option<u32>, AllocError>
+    ensures { IfOk result (λ found. IsLowest (OnCycle (map (λ row. row.items) graph.now)) found) }
+{
+    if !rises_nowhere(graph, labels) {
         return Err(AllocError);
     }
-    match first_level(graph, labels.as_slice()) {
+    match first_level(graph, labels) {
         None => Ok(None),
         Some(node) => {
             let Ok(node) = u32::try_from(node) else {
                 return Err(AllocError);
             };
-            let between = way_back(alloc, graph, labels.as_slice(), node)?;
+            let between = way_back(alloc, graph, labels, node)?;
             if is_cycle(graph, node, between.as_slice()) {
                 Ok(Some(node))
             } else {
