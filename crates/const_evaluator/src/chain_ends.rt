@@ -63,6 +63,17 @@ fn put_chain(
     start: u32,
 ) -> Result<(), AllocError> {
     let mut chain = Vec::new(alloc);
+    follow(links, met, &mut chain, start)?;
+    put_last_first(order, chain.as_slice())
+}
+
+/// Follows a chain from some link on over those that weren't met yet.
+fn follow(
+    links: &[Link],
+    met: &mut Vec<bool>,
+    chain: &mut Vec<u32>,
+    start: u32,
+) -> Result<(), AllocError> {
     let mut which = start;
     for _ in 0..links.len() {
         let place = which as usize;
@@ -76,8 +87,13 @@ fn put_chain(
             Some(Link::End(_)) | None => break,
         }
     }
-    for place in 0..chain.len() {
-        order.push(chain[chain.len() - 1 - place])?;
+    Ok(())
+}
+
+/// Puts numbers behind others, the last one first.
+fn put_last_first(order: &mut Vec<u32>, numbers: &[u32]) -> Result<(), AllocError> {
+    for place in 0..numbers.len() {
+        order.push(numbers[numbers.len() - 1 - place])?;
     }
     Ok(())
 }
@@ -87,13 +103,26 @@ fn put_chain(
 fn order(alloc: Global, links: &[Link]) -> Result<Vec<u32>, AllocError> {
     let mut met = vec![in alloc; false; links.len()]?;
     let mut order = Vec::new(alloc);
+    match put_chains(alloc, links, &mut met, &mut order) {
+        Ok(()) => Ok(order),
+        Err(fault) => Err(fault),
+    }
+}
+
+/// Puts the chains from all links into an order.
+fn put_chains(
+    alloc: Global,
+    links: &[Link],
+    met: &mut Vec<bool>,
+    order: &mut Vec<u32>,
+) -> Result<(), AllocError> {
     for start in 0..links.len() {
         let Ok(start) = u32::try_from(start) else {
             return Err(AllocError);
         };
-        put_chain(alloc, links, &mut met, &mut order, start)?;
+        put_chain(alloc, links, met, order, start)?;
     }
-    Ok(order)
+    Ok(())
 }
 
 /// What a table of ends tells of a number.

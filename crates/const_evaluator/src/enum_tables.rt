@@ -1,9 +1,9 @@
 //! The values of enums by name.
 
-ghost use Rattle.std.specs.Prelude.{◌≡◌, ℕ, List, IfOk};
+ghost use Rattle.std.specs.Prelude.{◌≡◌, ℕ, List, IfOk, OnOk};
 ghost use Rattle.std.specs.List.{position_from};
 ghost use Rattle.std.specs.Str.{bytes_eq};
-ghost use Rattle.idl_names.specs.NameMaps.{number_of_name};
+ghost use Rattle.idl_names.specs.NameMaps.{number_of_name, HasOneMore};
 ghost use Rattle.idl_parser.specs.declared.tree.EnumValue.{EnumValue};
 ghost use Rattle.const_evaluator.specs.EnumTables.{number_in_table, number_in_tables, IsTableOf, AreTablesOf};
 
@@ -27,21 +27,34 @@ fn first_places<'a>(alloc: Global, values: &'a [EnumValue]) -> Result<NameMap<'a
 {
     let mut places = IndexMap::new(alloc);
     for (place, value) in values.iter().enumerate() {
-        let Ok(place) = u32::try_from(place) else {
-            return Err(AllocError);
-        };
-        note(&mut places, value.name.text.as_slice(), place)?;
+        put_value(&mut places, place, value)?;
     }
     Ok(places)
+}
+
+/// Adds the place of a value by its name, unless the name is there.
+fn put_value<'a>(
+    places: &mut NameMap<'a>,
+    place: usize,
+    value: &'a EnumValue,
+) -> Result<(), AllocError>
+    ensures { OnOk result (HasOneMore value.now.name.text place places.old places.new) }
+{
+    let Ok(place) = u32::try_from(place) else {
+        return Err(AllocError);
+    };
+    note(places, value.name.text.as_slice(), place)
 }
 
 /// The values of an enum by name.
 fn enum_table<'a>(alloc: Global, values: &'a [EnumValue]) -> Result<EnumTable<'a>, AllocError>
     ensures { IfOk result (IsTableOf values.now) }
 {
-    let places = first_places(alloc, values)?;
     let numbers = enum_numbers(alloc, values)?;
-    Ok(EnumTable { places, numbers })
+    match first_places(alloc, values) {
+        Ok(places) => Ok(EnumTable { places, numbers }),
+        Err(fault) => Err(fault),
+    }
 }
 
 /// The values of each enum by name.

@@ -66,12 +66,40 @@ fn evaluated_over(
 {
     let definitions = all_definitions(alloc, files)?;
     let names = name_tables(alloc, files, &definitions)?;
+    evaluated_among(
+        alloc,
+        files,
+        &definitions,
+        &names,
+        partial,
+        file,
+        kind,
+        tree,
+    )
+}
+
+/// Does the same by what names stand for, and the definitions.
+fn evaluated_among<'a>(
+    alloc: Global,
+    files: &'a [IdlFile],
+    definitions: &Definitions<'a>,
+    names: &NameTables<'a>,
+    partial: &Schema,
+    file: u32,
+    kind: &TypeDesc,
+    tree: &ConstTree,
+) -> Result<Answer, AllocError>
+    requires names { files.now ≡ names.now }
+    requires definitions { listing_in definitions.now ≡ listing_of (program_in names.now) }
+    requires partial { IsPartialSchema (program_in names.now) (schema_of partial.now) }
+    ensures { IfOk result (IsEvaluated (evaluated (record { program = program_in names.now; schema = schema_of partial.now }) file (kind_of kind.now) (value_in tree.now))) }
+{
     let spots = program_spots(alloc, files)?;
     let values = values_at(alloc, spots.as_slice())?;
     evaluated_by(
         alloc,
-        &definitions,
-        &names,
+        definitions,
+        names,
         values.as_slice(),
         partial,
         file,
@@ -80,7 +108,7 @@ fn evaluated_over(
     )
 }
 
-/// Does the same by what names stand for, the definitions, and the values that are given.
+/// Does the same by the values that are given.
 fn evaluated_by<'a>(
     alloc: Global,
     definitions: &Definitions<'a>,
@@ -98,6 +126,8 @@ fn evaluated_by<'a>(
 {
     let places = value_places(alloc, values)?;
     let constants = const_names(alloc, names, definitions, &places)?;
-    let ground = program_ground(alloc, &constants, definitions, &places, values, partial)?;
-    Ok(evaluate_in(&ground, alloc, file, kind, tree))
+    match program_ground(alloc, &constants, definitions, &places, values, partial) {
+        Ok(ground) => Ok(evaluate_in(&ground, alloc, file, kind, tree)),
+        Err(fault) => Err(fault),
+    }
 }

@@ -42,14 +42,16 @@ pub fn program_evaluator<'g, 'n, 'a>(
     ensures ready { IfOk result (λ evaluator. CanEvaluate evaluator) }
     ensures right { IfOk result (λ evaluator. IsEvaluatorOf evaluator (ground_program ground.now)) }
 {
-    let work = no_progress(ground, alloc)?;
-    Ok(ProgramEvaluator {
-        alloc,
-        ground,
-        types,
-        room: MOST_TYPES,
-        work,
-    })
+    match no_progress(ground, alloc) {
+        Ok(work) => Ok(ProgramEvaluator {
+            alloc,
+            ground,
+            types,
+            room: MOST_TYPES,
+            work,
+        }),
+        Err(fault) => Err(fault),
+    }
 }
 
 impl<'g, 'n, 'a> Evaluator for ProgramEvaluator<'g, 'n, 'a> {

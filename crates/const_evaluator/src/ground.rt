@@ -56,17 +56,19 @@ pub fn program_ground<'n, 'a>(
     ensures schema { IfOk result (λ made. ground_schema made ≡ schema_of schema.now) }
     ensures right { IfOk result (λ made. IsProgramGround made) }
 {
+    let ends = chain_ends(alloc, constants, values)?;
     let structs = definitions.structs.as_slice();
     let lists = given_fields(alloc, structs, definitions.services.as_slice())?;
-    let structs = struct_tables(alloc, places, lists.as_slice(), schema.structs.as_slice())?;
-    let ends = chain_ends(alloc, constants, values)?;
-    Ok(ProgramGround {
-        constants,
-        values,
-        schema,
-        structs,
-        ends,
-    })
+    match struct_tables(alloc, places, lists.as_slice(), schema.structs.as_slice()) {
+        Ok(structs) => Ok(ProgramGround {
+            constants,
+            values,
+            schema,
+            structs,
+            ends,
+        }),
+        Err(fault) => Err(fault),
+    }
 }
 
 impl<'n, 'a> ProgramGround<'n, 'a> {

@@ -37,18 +37,23 @@ pub fn value_places(alloc: Global, values: &[GivenTree<'_>]) -> Result<ValuePlac
 {
     let mut numbers = IndexMap::new(alloc);
     for (number, value) in values.iter().enumerate() {
-        let Ok(number) = u32::try_from(number) else {
-            return Err(AllocError);
-        };
         put_place(&mut numbers, value.file, value.owner, number)?;
     }
     Ok(ValuePlaces { numbers })
 }
 
 /// The number of one place more, which isn't there yet.
-fn put_place(numbers: &mut PlaceMap, file: u32, owner: Place, number: u32) -> Result<(), AllocError>
+fn put_place(
+    numbers: &mut PlaceMap,
+    file: u32,
+    owner: Place,
+    number: usize,
+) -> Result<(), AllocError>
     ensures { OnOk result (HasNewPlace file owner number numbers.old numbers.new) }
 {
+    let Ok(number) = u32::try_from(number) else {
+        return Err(AllocError);
+    };
     let key = (file, owner.line, owner.column);
     if numbers.contains_key(&key) {
         return Err(AllocError);

@@ -147,8 +147,10 @@ fn struct_table<'s>(
     }
     let sorted = fields_sorted(alloc, list.fields)?;
     let owed = owed_fields(alloc, places, list.file, sorted.as_slice(), fields)?;
-    let places = field_places(alloc, fields)?;
-    Ok(StructTable { desc, places, owed })
+    match field_places(alloc, fields) {
+        Ok(places) => Ok(StructTable { desc, places, owed }),
+        Err(fault) => Err(fault),
+    }
 }
 
 /// The tables of structs, of which these are the fields as they are written.

@@ -59,12 +59,14 @@ pub fn const_names<'n, 'a>(
     ensures { IfOk result (λ constants. constants ≡ names.now) }
 {
     let enums = enum_tables(alloc, definitions.enums.as_slice())?;
-    let constants = constant_values(alloc, definitions.constants.as_slice(), places)?;
-    Ok(ConstNames {
-        names,
-        enums,
-        constants,
-    })
+    match constant_values(alloc, definitions.constants.as_slice(), places) {
+        Ok(constants) => Ok(ConstNames {
+            names,
+            enums,
+            constants,
+        }),
+        Err(fault) => Err(fault),
+    }
 }
 
 /// The number of the value that each constant gives.

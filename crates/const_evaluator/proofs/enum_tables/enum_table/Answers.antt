@@ -1,5 +1,5 @@
 use Rattle.const_evaluator.proofs.Valued.{table_is}
 use Rattle.const_evaluator.proofs.enum_tables.enum_table.Goals as goal
 
-pub returns : goal.returns
-returns c = table_is c.args.values.now c.in_ok-places.places c.in_ok-numbers.numbers.items c.in_ok-places.ensures c.in_ok-numbers.ensures
+pub returns-in-Ok : goal.returns-in-Ok
+returns-in-Ok c = table_is c.args.values.now c.in-Ok.places c.in_ok-numbers.numbers.items c.in-Ok.ensures c.in_ok-numbers.ensures

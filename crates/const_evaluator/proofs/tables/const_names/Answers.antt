@@ -16,6 +16,6 @@ invariant_of-result c = record {
       numbers_found c.args.definitions.now.enums.items (enums_of (program_in c.args.names.now)) c.in_ok-enums.enums.items (ap (λ (l : Listing). l.enums) c.requires.definitions)
       (subst (λ (es : List (InFile Enum)). AreTablesOf es c.in_ok-enums.enums.items) c.as_slice.ensures.value c.in_ok-enums.ensures);
   values =
-      values_found (program_in c.args.names.now) c.args.definitions.now.constants.items c.as_slice-2.result.now c.args.places.now c.in_ok-constants.constants.items
-      (ap (λ (l : Listing). l.constants) c.requires.definitions) c.as_slice-2.ensures.value c.requires.places c.in_ok-constants.ensures;
+      values_found (program_in c.args.names.now) c.args.definitions.now.constants.items c.as_slice-2.result.now c.args.places.now c.in-Ok.constants.items
+      (ap (λ (l : Listing). l.constants) c.requires.definitions) c.as_slice-2.ensures.value c.requires.places c.in-Ok.ensures;
 }
