@@ -44,11 +44,11 @@ pub singles : {D : Type 0} (given : D → FieldsDecl) (xs : List D) → flat_map
 singles given [] = refl
 singles given (x ∷ xs) = ap (λ ds. given x ∷ ds) (singles given xs)
 
-pub sites_of : (program : Program) (structs : List (InFile Struct)) (services : List (InFile Service)) (none mid new : List FieldSite) → none ≡ []
-    → map sited_in mid ≡ map sited_in none ++ map sited (map struct_given structs) → map sited_in new ≡ map sited_in mid ++ map sited (flat_map service_args services)
+pub sites_of : (program : Program) (structs : List (InFile Struct)) (services : List (InFile Service)) (none new : List FieldSite) → none ≡ []
+    → map sited_in new ≡ (map sited_in none ++ map sited (map struct_given structs)) ++ map sited (flat_map service_args services)
     → filed_structs structs ≡ structs_of program → filed_services services ≡ services_of program → map sited_in new ≡ map sited (field_lists program)
-sites_of program structs services none mid new empty a b s v =
-    b ∙ ap (λ (ss : List SitedFields). ss ++ map sited (flat_map service_args services)) (a ∙ ap (λ (ss : List FieldSite). map sited_in ss ++ map sited (map struct_given structs)) empty)
+sites_of program structs services none new empty put s v =
+    put ∙ ap (λ (ss : List FieldSite). (map sited_in ss ++ map sited (map struct_given structs)) ++ map sited (flat_map service_args services)) empty
     ∙ sym (map-append sited (map struct_given structs) (flat_map service_args services)) ∙ ap (map sited) (lists_given program structs services s v)
 
 pub behind_none : {D : Type 0} (given : D → List FieldsDecl) (first : List FieldSite) → AreBehind given first [] first

@@ -30,13 +30,15 @@ fn constant_desc(
 {
     let name = given.item.name.text.try_clone(alloc)?;
     let kind = type_meant(alloc, tables, given.file, &given.item.kind, room)?;
-    let value = worths.take(given.file, given.item.name.at)?;
-    Ok(ConstDesc {
-        file: given.file,
-        name,
-        kind,
-        value,
-    })
+    match worths.take(given.file, given.item.name.at) {
+        Ok(value) => Ok(ConstDesc {
+            file: given.file,
+            name,
+            kind,
+            value,
+        }),
+        Err(fault) => Err(fault),
+    }
 }
 
 /// The constants of a program with their values.

@@ -69,6 +69,18 @@ fn put_services<'a>(
     Ok(())
 }
 
+/// The fields of structs, unions and exceptions, and then the arguments of services, behind others.
+fn put_all<'a>(
+    sites: &mut Vec<FieldSite<'a>>,
+    structs: &[InFile<'a, Struct>],
+    services: &[InFile<'a, Service>],
+) -> Result<(), AllocError>
+    ensures { OnOk result (map sited_in sites.new.items ≡ (map sited_in sites.old.items ++ map sited (map struct_given structs.now)) ++ map sited (flat_map service_args services.now)) }
+{
+    put_structs(sites, structs)?;
+    put_services(sites, services)
+}
+
 /// The fields of all structs of a schema, by number.
 pub(crate) fn field_sites<'a>(
     alloc: Global,
@@ -79,7 +91,8 @@ pub(crate) fn field_sites<'a>(
         → IfOk result (λ sites. map sited_in sites.items ≡ map sited (field_lists program)) }
 {
     let mut sites = Vec::new(alloc);
-    put_structs(&mut sites, structs)?;
-    put_services(&mut sites, services)?;
-    Ok(sites)
+    match put_all(&mut sites, structs, services) {
+        Ok(()) => Ok(sites),
+        Err(fault) => Err(fault),
+    }
 }

@@ -45,17 +45,44 @@ pub(crate) fn with_values<'a>(
         names,
         aliases: aliases.as_slice(),
     };
+    with_given(alloc, definitions, &tables, partial, spots)
+}
+
+/// The same by what types mean, from the schema without defaults and constants.
+fn with_given<'n, 'a>(
+    alloc: Global,
+    definitions: &Definitions<'a>,
+    tables: &TypeTables<'n, 'a>,
+    partial: Schema,
+    spots: &[SpotIn<'a>],
+) -> Result<Schema, CheckFault>
+    requires definitions { listing_in definitions.now ≡ listing_of (program_in tables.now.names.now) }
+    requires aliases { AreAliasTypes (program_in tables.now.names.now) tables.now.aliases.now }
+    requires partial { IsPartialSchema (program_in tables.now.names.now) (schema_of partial) }
+    requires spots { spots_in spots.now ≡ spots_of (program_in tables.now.names.now) }
+    ensures { IsValued (program_in tables.now.names.now) result }
+{
     let values = values_at(alloc, spots)?;
-    let places = value_places(alloc, values.as_slice())?;
-    match worths_over(
-        alloc,
-        definitions,
-        &tables,
-        &places,
-        &partial,
-        values.as_slice(),
-    ) {
-        Ok(made) => Ok(whole_schema(alloc, definitions, &tables, &places, partial, made)?),
+    with_placed(alloc, definitions, tables, partial, values.as_slice())
+}
+
+/// The same by the values that are given.
+fn with_placed<'n, 'a>(
+    alloc: Global,
+    definitions: &Definitions<'a>,
+    tables: &TypeTables<'n, 'a>,
+    partial: Schema,
+    values: &[GivenTree<'a>],
+) -> Result<Schema, CheckFault>
+    requires definitions { listing_in definitions.now ≡ listing_of (program_in tables.now.names.now) }
+    requires aliases { AreAliasTypes (program_in tables.now.names.now) tables.now.aliases.now }
+    requires partial { IsPartialSchema (program_in tables.now.names.now) (schema_of partial) }
+    requires values { AreGivenValues (program_in tables.now.names.now) values.now }
+    ensures { IsValued (program_in tables.now.names.now) result }
+{
+    let places = value_places(alloc, values)?;
+    match worths_over(alloc, definitions, tables, &places, &partial, values) {
+        Ok(made) => Ok(whole_schema(alloc, definitions, tables, &places, partial, made)?),
         Err(fault) => Err(fault),
     }
 }
