@@ -7,7 +7,7 @@ use Rattle.wire_num.specs.Decoding.{decode_bytes, decode_byte, decode_signed, de
 use Rattle.wire_num.specs.Fixed.{signed_of}
 use Rattle.wire_num.specs.Varint.{decode_varint, decode_groups, varint_of}
 use Rattle.wire_num.proofs.Fronts.{front_found, meant, decoded, decoded_is}
-use Rattle.outside.specs.declared.outcomes.EnvelopeFault.TheVariants.{NameSize}
+use Rattle.streams.specs.declared.outcomes.EnvelopeFault.TheVariants.{NameSize}
 use Rattle.envelope.specs.declared.head.Head.{Head}
 use Rattle.envelope.specs.declared.head.Protocol.{Protocol}
 use Rattle.envelope.specs.declared.head.Protocol.TheVariants.{Binary, Compact}

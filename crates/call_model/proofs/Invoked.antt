@@ -5,7 +5,7 @@ use Rattle.std.specs.List.{slice_get}
 use Rattle.std.specs.Option.{option_map}
 use Rattle.std.proofs.lemmas.Option.{slice_get_within}
 use Rattle.std.proofs.lemmas.Slice.Eq.{bytes_eq-Decides}
-use Rattle.outside.specs.declared.outcomes.EnvelopeFault.{EnvelopeFault}
+use Rattle.streams.specs.declared.outcomes.EnvelopeFault.{EnvelopeFault}
 use Rattle.host_model.specs.DeskRules.{DeskDecision, Invoke}
 use Rattle.call_rules.specs.PlainCalls.{PlainCall, IsPlainValue, IsStruct}
 use Rattle.envelope.specs.declared.head.Head.{Head}

@@ -1,7 +1,7 @@
 -- Each reply that is decided is a whole frame.
 use Rattle.std.proofs.Common.{◌≡◌, ℕ, ◌≤◌, Bool, true, false, List, codes, length, Option, Some, None, Result, Ok, Err, refl, subst, arith}
 use Rattle.std.proofs.lemmas.List.{length-append}
-use Rattle.outside.specs.declared.outcomes.EnvelopeFault.{EnvelopeFault}
+use Rattle.streams.specs.declared.outcomes.EnvelopeFault.{EnvelopeFault}
 use Rattle.host_model.specs.DeskRules.{DeskDecision, Reply}
 use Rattle.call_rules.specs.PlainCalls.{PlainCall}
 use Rattle.call_rules.specs.Desks.{IsWholeFrame, longest_payload}

@@ -1,6 +1,6 @@
 -- What is decided on a payload, in the order of its content: head, service, method, arguments (Thrift: a processor).
 use Rattle.std.specs.Prelude.{ℕ, ◌==◌, ◌||◌, Bool, if◌then◌else◌, List, Option, Some, None, Result, Ok, Err}
-use Rattle.outside.specs.declared.outcomes.EnvelopeFault.{EnvelopeFault}
+use Rattle.streams.specs.declared.outcomes.EnvelopeFault.{EnvelopeFault}
 use Rattle.host_model.specs.DeskRules.{DeskDecision, Close, Silent, Reply, Invoke}
 use Rattle.host_model.specs.Frames.{frame}
 use Rattle.envelope.specs.declared.head.Head.{Head}

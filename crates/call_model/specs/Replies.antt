@@ -1,6 +1,6 @@
 -- What goes back for a call and its answer (Thrift RPC specification, 'Response').
 use Rattle.std.specs.Prelude.{ℕ, ℤ, pos, ◌&&◌, nat_le, Bool, if◌then◌else◌, List, [], ◌++◌, length, Option, Some, None, Result, Ok, Err}
-use Rattle.outside.specs.declared.outcomes.EnvelopeFault.{EnvelopeFault}
+use Rattle.streams.specs.declared.outcomes.EnvelopeFault.{EnvelopeFault}
 use Rattle.host_model.specs.Frames.{frame}
 use Rattle.binary_codec.specs.Written.{binary_encoder}
 use Rattle.compact_codec.specs.Written.{compact_encoder}

@@ -2,7 +2,7 @@
 
 ghost use Rattle.std.specs.Prelude.{◌≡◌, pos, true, false, [], ◌∷◌, ◌++◌, codes, Some, None};
 ghost use Rattle.thrift_value.specs.Tree.{of_bool, of_bytes, of_i32, of_list, of_struct, field, no_fields, item, no_items};
-ghost use Rattle.outside.specs.declared.outcomes.EnvelopeFault.TheVariants as envelope_faults;
+ghost use Rattle.streams.specs.declared.outcomes.EnvelopeFault.TheVariants as envelope_faults;
 ghost use Rattle.host_model.specs.DeskRules as desk;
 ghost use Rattle.thrift_value.specs.declared.tag.Tag.TheVariants as tags;
 ghost use Rattle.envelope.specs.declared.head.Protocol.{Protocol};

@@ -1,7 +1,7 @@
 //! What is decided on a payload.
 
 use crate::call::Call;
-use outside::{Bytes, EnvelopeFault};
+use streams::{Bytes, EnvelopeFault};
 
 /// What is decided on a payload.
 #[derive(Drop)]

@@ -2,12 +2,12 @@
 
 ghost use Rattle.std.specs.Prelude.{◌≡◌, ◌≤◌, ℕ, Bool, true, false, List, [], ◌∷◌, ◌++◌, Option, OnOk, MatchResult};
 ghost use Rattle.std.specs.Option.{option_map};
-ghost use Rattle.outside.specs.Cause.{HasCause};
+ghost use Rattle.streams.specs.Cause.{HasCause};
 ghost use Rattle.call_rules.specs.Entries.{CallEntry};
 ghost use Rattle.call_rules.specs.PlainCalls.{IsPlainCall, IsPlainAnswer};
 
 use crate::call::Entry;
-use outside::Failed;
+use streams::Failed;
 use std::alloc::AllocError;
 
 /// Where calls are entered with their answers, in the order in which they took effect.

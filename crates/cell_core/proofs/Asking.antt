@@ -1,6 +1,6 @@
 -- What a worker asks of the hall in a step, where the hall can do it, and how its step comes of what is answered.
 use Rattle.std.proofs.Common.{◌≡◌, ℕ, Bool, List, refl, sym, ap, subst}
-use Rattle.outside.specs.declared.outcomes.Settled.{Settled}
+use Rattle.streams.specs.declared.outcomes.Settled.{Settled}
 use Rattle.host_model.specs.declared.key.Key.{Key}
 use Rattle.host_model.specs.DeskRules as desk_rule
 use Rattle.host_model.specs.DeskRules.{DeskDecision, Invoke}

@@ -1,7 +1,7 @@
 -- What a rehearsal in memory has come to: where all lines were done, where it stopped, and where it wasn't begun.
 use Rattle.std.proofs.Common.{◌≡◌, ◌≢◌, ℕ, ◌<◌, ◌≤◌, ◌^◌, Option, Some, List, [], length, slice_get, refl, sym, ap, ◌∙◌, subst, arith}
-use Rattle.outside.specs.Cause.{Rose}
-use Rattle.outside.specs.declared.marks.Mark.{Mark}
+use Rattle.streams.specs.Cause.{Rose}
+use Rattle.streams.specs.declared.marks.Mark.{Mark}
 use Rattle.host_model.specs.declared.cause.EndCause.{EndCause}
 use Rattle.host_model.specs.declared.cause.EndCause.TheVariants.{Stopped, NoMemory as WantsMemory}
 use Rattle.call_rules.specs.Entries.{CallEntry}

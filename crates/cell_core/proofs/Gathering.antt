@@ -1,6 +1,6 @@
 -- What a submit and a collect are of a machine in memory, whichever play it was tied to.
 use Rattle.std.proofs.Common.{◌≡◌, ℕ, ◌<◌, ◌≤◌, Bool, true, false, Some, List, ◌∷◌, ◌++◌, [], length, slice_get, refl, sym, ap, subst}
-use Rattle.outside.specs.declared.outcomes.Settled.{Settled}
+use Rattle.streams.specs.declared.outcomes.Settled.{Settled}
 use Rattle.host_model.specs.declared.key.Key.{Key}
 use Rattle.call_rules.specs.PlainCalls.{PlainAnswer}
 use Rattle.call_rules.specs.Handling.{handler_rules}

@@ -2,8 +2,8 @@
 use Rattle.std.proofs.Common.{◌≡◌, ℕ, ◌≤◌, List, map, length, sym, ◌∙◌, subst, arith}
 use Rattle.std.proofs.lemmas.List.{length-map}
 use Rattle.std.specs.List.{AllByRecursion}
-use Rattle.outside.specs.declared.marks.Mark.{Mark}
-use Rattle.outside.specs.Cause.{Rose}
+use Rattle.streams.specs.declared.marks.Mark.{Mark}
+use Rattle.streams.specs.Cause.{Rose}
 use Rattle.script_model.specs.ScriptLines.{PlanLine}
 use Rattle.cell_loop.specs.Settings.{CellSetting}
 use Rattle.cell_loop.specs.Moving.{all_lines}

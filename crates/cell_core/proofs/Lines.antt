@@ -6,7 +6,7 @@ use Rattle.std.specs.Vec.{vec_capacity}
 use Rattle.std.proofs.lemmas.Option.{none-some, same_Some}
 use Rattle.host_model.specs.declared.cause.EndCause.{EndCause}
 use Rattle.call_rules.specs.Desks.{DeskMeaning}
-use Rattle.outside.specs.Rows.{TapeView}
+use Rattle.streams.specs.Rows.{TapeView}
 use Rattle.conn_table.specs.Table.{TableView}
 use Rattle.machine_model.specs.AtFronts.{KeepsWithin}
 use Rattle.machine_model.specs.Bounds.{NoneIsLeftBehind}

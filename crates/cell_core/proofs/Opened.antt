@@ -3,7 +3,7 @@ use Rattle.std.proofs.Common.{◌≡◌, ℕ, zero, suc, ◌<◌, ◌≤◌, ◌
 use Rattle.std.specs.List.{AllByRecursion}
 use Rattle.std.proofs.lemmas.List.{append_assoc}
 use Rattle.std.proofs.lemmas.Option.{none-some}
-use Rattle.outside.specs.Cause.{Rose}
+use Rattle.streams.specs.Cause.{Rose}
 use Rattle.host_model.specs.declared.cause.EndCause.{EndCause}
 use Rattle.host_model.specs.DeskRules.{DeskRules}
 use Rattle.host_model.specs.Journal.{after}

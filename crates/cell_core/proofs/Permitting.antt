@@ -1,6 +1,6 @@
 -- What a worker asks in a step, the hall can do: the key of the job in its hand is taken, its call's service is there, and its payload isn't too long.
 use Rattle.std.proofs.Common.{◌≡◌, ℕ, ◌<◌, ◌≤◌, ◌^◌, true, Some, List, [], ◌∷◌, ◌++◌, length, refl, sym, ap, ◌∙◌, subst, inr, arith}
-use Rattle.outside.specs.declared.outcomes.Settled.TheVariants.{NoMemory}
+use Rattle.streams.specs.declared.outcomes.Settled.TheVariants.{NoMemory}
 use Rattle.host_model.specs.declared.key.Key.{Key}
 use Rattle.host_model.specs.Frames.{IsPayload, ArePayloads}
 use Rattle.host_model.specs.Journal.{entries_of}

@@ -2,8 +2,8 @@
 use Rattle.std.proofs.Common.{◌≡◌, ◌≢◌, ℕ, ◌+◌, ◌≤◌, Bool, true, false, Some, List, [], length, sym, ap, ◌∙◌, refl, subst, if◌then◌else◌, ⊎_elim, arith, length-append}
 use Rattle.std.specs.Int.{w32, to_be_bytes}
 use Rattle.std.proofs.lemmas.Option.{none-some, same_Some}
-use Rattle.outside.specs.declared.outcomes.Settled.{Settled}
-use Rattle.outside.specs.declared.outcomes.Settled.TheVariants.{Reply as Replied, Nothing, Close as Closed}
+use Rattle.streams.specs.declared.outcomes.Settled.{Settled}
+use Rattle.streams.specs.declared.outcomes.Settled.TheVariants.{Reply as Replied, Nothing, Close as Closed}
 use Rattle.host_model.specs.declared.key.Key.{Key}
 use Rattle.host_model.specs.DeskRules.{DeskDecision, Close, Silent, Reply, Invoke}
 use Rattle.call_rules.specs.PlainCalls.{PlainCall, PlainAnswer}

@@ -1,8 +1,8 @@
 -- What a rehearsal in memory comes to.
 use Rattle.std.specs.Prelude.{◌≡◌, ◌≢◌, ◌⊎◌, ℕ, zero, suc, Option, List, [], ◌∷◌, ◌++◌, replicate, slice_get, slice_index_or, slice_set, Some}
-use Rattle.outside.specs.declared.marks.Mark.{Mark}
-use Rattle.outside.specs.declared.marks.Mark.TheVariants.{Wrote}
-use Rattle.outside.specs.Cause.{Rose}
+use Rattle.streams.specs.declared.marks.Mark.{Mark}
+use Rattle.streams.specs.declared.marks.Mark.TheVariants.{Wrote}
+use Rattle.streams.specs.Cause.{Rose}
 use Rattle.host_model.specs.Marks.{marks_of, output}
 use Rattle.host_model.specs.Journal.{after}
 use Rattle.host_model.specs.declared.cause.EndCause.{EndCause}

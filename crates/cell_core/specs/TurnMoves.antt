@@ -1,6 +1,6 @@
 -- What a worker's step is, of whichever play the hall is tied to.
 use Rattle.std.specs.Prelude.{◌≡◌, ℕ, ◌≤◌, true, length}
-use Rattle.outside.specs.Cause.{Rose}
+use Rattle.streams.specs.Cause.{Rose}
 use Rattle.call_rules.specs.Desks.{DeskMeaning, longest_payload}
 use Rattle.call_rules.specs.Handling.{handler_rules}
 use Rattle.machine_model.specs.Machine.{with_worker, applies, Steps}

@@ -17,7 +17,7 @@ use call_rules::{Desk, Handler, Journal, Key};
 use cell_loop::move_laws::moves_are_reached;
 use cell_loop::{CellStage, LoopPart};
 use hall_core::{Hall, HallReply};
-use outside::{Bytes, Settled};
+use streams::{Bytes, Settled};
 use std::alloc::{AllocError, Global};
 
 /// The machine of loop, hall and workers.

@@ -1,11 +1,11 @@
 //! What was written to each connection of a run.
 
 ghost use Rattle.std.specs.Prelude.{◌≡◌, ◌++◌, [], map, replicate, slice_index_or, slice_set, IfOk, OnOk};
-ghost use Rattle.outside.specs.Marks.{lent_mark};
+ghost use Rattle.streams.specs.Marks.{lent_mark};
 ghost use Rattle.cell_core.specs.Rehearsed.{AreWritten, rows_behind};
 
 use lists::Listed;
-use outside::{Bytes, Cursor, MarkAt};
+use streams::{Bytes, Cursor, MarkAt};
 use std::alloc::{AllocError, Global};
 
 /// The bytes that were written to each connection, by number; contracts see a list of lists.

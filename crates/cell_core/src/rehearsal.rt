@@ -2,7 +2,7 @@
 
 ghost use Rattle.std.specs.Prelude.{◌≡◌, ◌≢◌, ◌≤◌, List, false, [], length, map, IfOk};
 ghost use Rattle.std.specs.Vec.{vec_capacity};
-ghost use Rattle.outside.specs.Cause.{Rose};
+ghost use Rattle.streams.specs.Cause.{Rose};
 ghost use Rattle.conn_table.specs.declared.run_limits.Outcome.TheVariants.{All, NetFault, JournalFault, NoMemory};
 ghost use Rattle.cell_core.specs.declared.stop.RunStop.TheVariants.{JournalFault as Broken};
 ghost use Rattle.host_model.specs.declared.cause.EndCause.{EndCause};
@@ -23,7 +23,7 @@ use call_rules::{Desk, Handler, Journal};
 use cell_loop::LoopPart;
 use conn_table::{Ends, Limits, Outcome};
 use hall_core::Hall;
-use outside::Tape;
+use streams::Tape;
 use script_text::Script;
 use script_text::laws::{kept_scripts_let_all_end, scripts_are_sound};
 use std::alloc::{AllocError, Global};

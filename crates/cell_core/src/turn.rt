@@ -19,7 +19,7 @@ use crate::stop::RunStop;
 use crate::worker::{Given, Holding};
 use call_rules::{Desk, Handler, Journal, Key};
 use hall_core::{Hall, HallOp, HallReply, Job, NextStep, next_step, settled_with};
-use outside::Settled;
+use streams::Settled;
 use seat_booth::Object;
 use std::alloc::Global;
 

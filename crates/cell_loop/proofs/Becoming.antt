@@ -3,8 +3,8 @@ use Rattle.std.proofs.Common.{◌≡◌, ℕ, suc, ◌+◌, ◌*◌, ◌^◌, �
 use Rattle.std.specs.Vec.{vec_capacity}
 use Rattle.std.specs.List.{AllByRecursion}
 use Rattle.std.proofs.lemmas.Bool.{cases_eq}
-use Rattle.outside.specs.declared.marks.Mark.{Mark}
-use Rattle.outside.specs.Rows.{TapeView}
+use Rattle.streams.specs.declared.marks.Mark.{Mark}
+use Rattle.streams.specs.Rows.{TapeView}
 use Rattle.host_model.specs.declared.cause.EndCause.{EndCause}
 use Rattle.conn_table.specs.Slots.{slot_in}
 use Rattle.conn_table.specs.Table.{TableView}

@@ -3,7 +3,7 @@ use Rattle.std.proofs.Common.{◌≡◌, ℕ, suc, ◌+◌, ◌*◌, ◌<◌, �
 use Rattle.std.specs.Prelude.{is_some}
 use Rattle.std.proofs.lemmas.Bool.{true≢false}
 use Rattle.std.proofs.lemmas.Option.{none-some}
-use Rattle.outside.specs.declared.marks.Mark.TheVariants.{Closed}
+use Rattle.streams.specs.declared.marks.Mark.TheVariants.{Closed}
 use Rattle.host_model.specs.declared.cause.EndCause.{EndCause}
 use Rattle.conn_state.specs.Phase.{Phase, sizing, held, framing, ready, waiting, writing, ended, IsReady, IsWaiting, IsReading, HasNotEnded, left_to_write, size_asked}
 use Rattle.conn_table.specs.declared.places.Slot.{Slot}

@@ -1,6 +1,6 @@
 -- The loop's part stays tied where a connection has ended, and is gone.
 use Rattle.std.proofs.Common.{Vec, Global, ◌≡◌, ℕ, suc, ◌<◌, Option, None, Some, List, [], ◌∷◌, ◌++◌, length, slice_set, refl, sym, ap, subst, arith}
-use Rattle.outside.specs.declared.marks.Mark.{Mark}
+use Rattle.streams.specs.declared.marks.Mark.{Mark}
 use Rattle.host_model.specs.declared.cause.EndCause.{EndCause}
 use Rattle.conn_table.specs.Slots.{slot_in}
 use Rattle.machine_model.specs.Loop.{LoopConn}

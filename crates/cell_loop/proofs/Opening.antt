@@ -4,7 +4,7 @@ use Rattle.std.proofs.lemmas.Bool.{cases_eq, cases_lt, lt-ltb, le-ltb, true≢fa
 use Rattle.std.proofs.lemmas.List.{length_push, get_or_push, get_or_append_left}
 use Rattle.std.specs.Vec.{vec_capacity}
 use Rattle.host_model.specs.declared.cause.EndCause.{EndCause}
-use Rattle.outside.specs.declared.marks.Mark.TheVariants.{Opened}
+use Rattle.streams.specs.declared.marks.Mark.TheVariants.{Opened}
 use Rattle.conn_state.specs.Phase.{fresh_conn}
 use Rattle.conn_table.specs.Slots.{most_connections, slot_in, with_added, HaveRisingNumbers}
 use Rattle.conn_table.specs.Table.{TableView, fresh_slot}

@@ -1,8 +1,8 @@
 -- Room for the marks of closes, and for causes, is kept.
 use Rattle.std.proofs.Common.{Vec, Global, ◌≡◌, ℕ, ◌+◌, ◌*◌, ◌^◌, ◌≤◌, List, [], ◌∷◌, ◌++◌, length, sym, ap, ◌∙◌, subst, length-append, arith}
 use Rattle.std.specs.Vec.{vec_capacity}
-use Rattle.outside.specs.declared.marks.Mark.{Mark}
-use Rattle.outside.specs.Rows.{TapeView}
+use Rattle.streams.specs.declared.marks.Mark.{Mark}
+use Rattle.streams.specs.Rows.{TapeView}
 use Rattle.host_model.specs.declared.cause.EndCause.{EndCause}
 use Rattle.conn_table.specs.Slots.{most_connections}
 use Rattle.cell_loop.specs.declared.loop_part.LoopPart.{LoopPart}

@@ -3,9 +3,9 @@ use Rattle.std.proofs.Common.{◌≡◌, ℕ, zero, suc, ◌+◌, ◌<◌, ◌�
 use Rattle.std.specs.Int.{w32, from_be_bytes}
 use Rattle.std.proofs.lemmas.Bool.{cases_eq, cases_lt, ltb-true}
 use Rattle.std.proofs.lemmas.Option.{none-some, same_Some}
-use Rattle.outside.specs.declared.outcomes.Settled.{Settled}
-use Rattle.outside.specs.declared.outcomes.Settled.TheVariants.{Reply, Nothing, Close as Refused, NoMemory as Lack}
-use Rattle.outside.specs.declared.marks.Mark.{Mark}
+use Rattle.streams.specs.declared.outcomes.Settled.{Settled}
+use Rattle.streams.specs.declared.outcomes.Settled.TheVariants.{Reply, Nothing, Close as Refused, NoMemory as Lack}
+use Rattle.streams.specs.declared.marks.Mark.{Mark}
 use Rattle.host_model.specs.declared.cause.EndCause.{EndCause}
 use Rattle.machine_model.specs.Loop.{LoopConn, new_conn, Loop, OwesNothing, StaysInSize, FrameProgress, part, bad_size, whole, read_more, marks_read, with_conn, changed, with_cause, conn_settled}
 use Rattle.machine_model.specs.Bounds.{sum_among}

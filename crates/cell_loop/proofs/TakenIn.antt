@@ -4,7 +4,7 @@ use Rattle.std.specs.Int.{w32, to_be_bytes}
 use Rattle.std.proofs.lemmas.Bool.{false≢true, lt-ltb, le-ltb, le-leb}
 use Rattle.std.proofs.lemmas.Option.{none-some, same_Some}
 use Rattle.std.proofs.lemmas.List.{length-take-le}
-use Rattle.outside.specs.declared.marks.Mark.TheVariants.{Read, Closed}
+use Rattle.streams.specs.declared.marks.Mark.TheVariants.{Read, Closed}
 use Rattle.host_model.specs.declared.cause.EndCause.{EndCause}
 use Rattle.host_model.specs.declared.cause.EndCause.TheVariants.{SizeFault}
 use Rattle.call_rules.specs.Handling.{handler_rules}

@@ -2,8 +2,8 @@
 use Rattle.std.proofs.Common.{◌≡◌, ◌↔◌, ℕ, ◌+◌, ◌*◌, ◌^◌, ◌<◌, ◌≤◌, true, Option, None, Some, IsSome, List, [], ◌∷◌, ◌++◌, length, take, drop, min, slice_set, Vec, Global, refl, sym, ap, ◌∙◌, subst, arith, append_assoc, length-append}
 use Rattle.std.proofs.lemmas.Bool.{false≢true}
 use Rattle.std.specs.Vec.{vec_capacity}
-use Rattle.outside.specs.declared.marks.Mark.TheVariants.{Read, Closed}
-use Rattle.outside.specs.Rows.{TapeView}
+use Rattle.streams.specs.declared.marks.Mark.TheVariants.{Read, Closed}
+use Rattle.streams.specs.Rows.{TapeView}
 use Rattle.host_model.specs.declared.cause.EndCause.{EndCause}
 use Rattle.conn_state.specs.Phase.{ConnView, cause_of, wanted, IsReady}
 use Rattle.conn_state.specs.Run.{EachIsByte}

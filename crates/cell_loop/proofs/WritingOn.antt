@@ -1,7 +1,7 @@
 -- A write of a reply that is left, or one that isn't possible yet, or fails.
 use Rattle.std.proofs.Common.{Vec, Global, ◌≡◌, ℕ, suc, ◌<◌, min, None, Some, List, [], ◌∷◌, ◌++◌, length, take, drop, slice_get, refl, sym, ap, ◌∙◌, subst, option_map, arith}
 use Rattle.std.proofs.lemmas.Option.{get_or_from_slice_get}
-use Rattle.outside.specs.declared.marks.Mark.TheVariants.{Wrote, WriteFailed, Closed}
+use Rattle.streams.specs.declared.marks.Mark.TheVariants.{Wrote, WriteFailed, Closed}
 use Rattle.host_model.specs.declared.cause.EndCause.TheVariants.{WriteFault}
 use Rattle.conn_state.specs.Phase.{Phase, ConnView, sizing, held, framing, ready, waiting, writing, ended, left_to_write}
 use Rattle.conn_state.specs.Step.{after_wrote}

@@ -2,7 +2,7 @@
 
 ghost use Rattle.std.specs.Prelude.{◌≡◌, ℕ, List, true, ◌+◌, ◌*◌, ◌<◌, ◌≤◌, Some, None, IsSome, [], ◌∷◌, ◌++◌, length, slice_get, slice_index_or, slice_set, map, IfOk, OnOk, OnErr};
 ghost use Rattle.std.specs.Vec.{vec_capacity};
-ghost use Rattle.outside.specs.declared.marks.Mark.TheVariants.{Opened, Closed};
+ghost use Rattle.streams.specs.declared.marks.Mark.TheVariants.{Opened, Closed};
 ghost use Rattle.host_model.specs.declared.cause.EndCause.{EndCause};
 ghost use Rattle.conn_state.specs.Phase.{cause_of, HasNotEnded};
 ghost use Rattle.conn_state.specs.Step.{IsFromOutside};
@@ -24,7 +24,7 @@ use crate::feed::Feed;
 use conn_state::EndCause;
 use conn_table::Table;
 use limits::MOST_CONNECTIONS;
-use outside::{MarkAt, Settled, TapeLog};
+use streams::{MarkAt, Settled, TapeLog};
 use script_text::RuleList;
 use std::alloc::{AllocError, Global};
 

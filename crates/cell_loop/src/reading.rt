@@ -17,7 +17,7 @@ ghost use Rattle.call_rules.specs.Desks.{longest_payload};
 use crate::feed::InputEnd;
 use crate::loop_part::{CellStage, LoopPart};
 use conn_state::EndCause;
-use outside::MarkAt;
+use streams::MarkAt;
 use std::alloc::{AllocError, Global};
 
 /// So many frames are counted at most.

@@ -3,7 +3,7 @@
 ghost use Rattle.std.specs.Prelude.{◌≡◌, ◌<◌, min, true, Some, None, IsSome, length, drop, slice_get, OnOk, OnErr};
 ghost use Rattle.std.specs.List.{AllByRecursion};
 ghost use Rattle.host_model.specs.declared.cause.EndCause.TheVariants.{WriteFault};
-ghost use Rattle.outside.specs.declared.marks.Mark.TheVariants.{WriteFailed};
+ghost use Rattle.streams.specs.declared.marks.Mark.TheVariants.{WriteFailed};
 ghost use Rattle.conn_state.specs.Phase.{left_to_write, HasNotEnded};
 ghost use Rattle.conn_table.specs.Slots.{slot_in};
 ghost use Rattle.conn_table.specs.Table.{slot_of};
@@ -16,7 +16,7 @@ ghost use Rattle.cell_loop.specs.LoopMoves.{IsLoopUnderWay, StaysTied, LoopMoves
 
 use crate::loop_part::LoopPart;
 use conn_state::EndCause;
-use outside::MarkAt;
+use streams::MarkAt;
 use script_text::WriteRule;
 use std::alloc::AllocError;
 

@@ -1,7 +1,7 @@
 -- The schema of a program, and the verdict on it.
 use Rattle.std.specs.Prelude.{◌≡◌, ℕ, List, Option, Some, None}
 use Rattle.std.specs.List.{AllZip}
-use Rattle.outside.specs.Files.{File}
+use Rattle.streams.specs.Files.{File}
 use Rattle.thrift_value.specs.Tree.{Tree}
 use Rattle.idl_include.specs.ConstExpr.{ConstExpr}
 use Rattle.idl_include.specs.Declarations.{FieldDecl, ConstDecl}

@@ -1,7 +1,7 @@
 //! What holds of schemas and of first faults.
 
 ghost use Rattle.std.specs.Prelude.{◌≡◌, ◌⊎◌, ℕ, List};
-ghost use Rattle.outside.specs.Files.{File};
+ghost use Rattle.streams.specs.Files.{File};
 ghost use Rattle.idl_include.specs.TypeExpr.{TypeExpr};
 ghost use Rattle.idl_include.specs.Program.{Program};
 ghost use Rattle.schema.specs.PlainKind.{PlainKind};

@@ -2,7 +2,7 @@
 use Rattle.std.specs.Prelude.{ℕ, ℤ, pos, ◌==◌, if◌then◌else◌, List, [], ◌∷◌, Option, Some, None, unwrap_or, Result, Ok, Err}
 use Rattle.std.specs.Ordering.{int_eq}
 use Rattle.std.specs.Str.{bytes_eq}
-use Rattle.outside.specs.declared.outcomes.EnvelopeFault.{EnvelopeFault}
+use Rattle.streams.specs.declared.outcomes.EnvelopeFault.{EnvelopeFault}
 use Rattle.envelope.specs.declared.head.Head.{Head as MessageHead}
 use Rattle.envelope.specs.Said.{exception as exception_type}
 use Rattle.envelope.specs.Readout.{reply_head_at}

@@ -3,7 +3,7 @@
 ghost use Rattle.std.specs.Prelude.{◌≡◌};
 ghost use Rattle.client_desk.specs.HeardFaults.{fault_of_skew, fault_of_wire};
 
-use outside::EnvelopeFault;
+use streams::EnvelopeFault;
 use std::alloc::AllocError;
 use struct_skew::SkewFault;
 use thiserror::Error;

@@ -1,7 +1,7 @@
 //! Worked rows of what is asked and heard, each the contract of a function that does nothing.
 
 ghost use Rattle.std.specs.Prelude.{◌≡◌, pos, true, false, [], ◌∷◌, ◌++◌, codes, Ok, Err};
-ghost use Rattle.outside.specs.declared.outcomes.EnvelopeFault.TheVariants as heads;
+ghost use Rattle.streams.specs.declared.outcomes.EnvelopeFault.TheVariants as heads;
 ghost use Rattle.envelope.specs.declared.head.Protocol.TheVariants.{Binary, Compact};
 ghost use Rattle.thrift_value.specs.declared.wire_fault.WireFault.TheVariants as wire;
 ghost use Rattle.thrift_value.specs.Tree.{of_i32, of_i64, of_struct, field, no_fields};

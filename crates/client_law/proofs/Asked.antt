@@ -4,7 +4,7 @@ use Rattle.std.specs.Prelude.{All, IsTrue, nat_le, is_ok, ◌&&◌, ◌==◌, �
 use Rattle.std.specs.Int.{w32}
 use Rattle.std.proofs.lemmas.Bool.{and_parts, leb-true, false≢true}
 use Rattle.std.proofs.lemmas.Slice.Eq.{bytes_eq-Decides}
-use Rattle.outside.specs.declared.outcomes.EnvelopeFault.{EnvelopeFault}
+use Rattle.streams.specs.declared.outcomes.EnvelopeFault.{EnvelopeFault}
 use Rattle.host_model.specs.DeskRules.{Invoke}
 use Rattle.host_model.specs.Frames.{frame}
 use Rattle.envelope.specs.declared.head.Head.{Head}

@@ -7,7 +7,7 @@ use Rattle.std.specs.Result.{IsOk}
 use Rattle.std.proofs.lemmas.Bool.{leb-true, leb-false, le-leb}
 use Rattle.std.proofs.lemmas.Bool.Decides.{Decides-int_eq}
 use Rattle.std.proofs.lemmas.Slice.Eq.{bytes_eq-Decides}
-use Rattle.outside.specs.declared.outcomes.EnvelopeFault.{EnvelopeFault}
+use Rattle.streams.specs.declared.outcomes.EnvelopeFault.{EnvelopeFault}
 use Rattle.host_model.specs.Frames.{frame}
 use Rattle.envelope.specs.declared.head.Head.{Head}
 use Rattle.envelope.specs.declared.head.Protocol.{Protocol}

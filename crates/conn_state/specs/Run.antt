@@ -1,6 +1,6 @@
 -- The calls that change a connection, and a run of them with one largest size.
 use Rattle.std.specs.Prelude.{◌≡◌, ℕ, ◌^◌, ◌<◌, ◌≤◌, List, [], ◌∷◌, ◌++◌, length, drop, slice_index}
-use Rattle.outside.specs.declared.outcomes.Settled.{Settled}
+use Rattle.streams.specs.declared.outcomes.Settled.{Settled}
 use Rattle.host_model.specs.declared.cause.EndCause.{EndCause}
 use Rattle.conn_state.specs.Phase.{ConnView, waiting, ready, ended, wanted, left_to_write, IsHeld, IsReading, IsWaiting, HasNotEnded}
 use Rattle.conn_state.specs.Step.{after_took, after_admission, after_answer, after_wrote, after_end_of_input, IsFromOutside}

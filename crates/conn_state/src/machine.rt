@@ -9,7 +9,7 @@ ghost use Rattle.conn_state.specs.Inside.{phase_of, IsSoundState};
 use super::size_bytes::SizeBytes;
 use host_model::EndCause;
 use limits::MOST_READ;
-use outside::{Bytes, Settled};
+use streams::{Bytes, Settled};
 use std::alloc::{AllocError, Global};
 use std::marker::Model;
 use std::mem;

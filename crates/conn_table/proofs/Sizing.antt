@@ -4,8 +4,8 @@ use Rattle.std.specs.List.{AllByRecursion}
 use Rattle.std.proofs.lemmas.Bool.{false≢true, cases_eq, cases_lt, lt-ltb, le-ltb}
 use Rattle.std.proofs.lemmas.Option.{none-some, same_Some}
 use Rattle.std.specs.Int.{w32, from_be_bytes, cast_signed}
-use Rattle.outside.specs.declared.outcomes.Settled.{Settled}
-use Rattle.outside.specs.declared.outcomes.Settled.TheVariants.{Reply, Nothing, Close, NoMemory as NoRoom}
+use Rattle.streams.specs.declared.outcomes.Settled.{Settled}
+use Rattle.streams.specs.declared.outcomes.Settled.TheVariants.{Reply, Nothing, Close, NoMemory as NoRoom}
 use Rattle.host_model.specs.declared.cause.EndCause.TheVariants.{SizeFault}
 use Rattle.conn_state.specs.Phase.{Phase, ConnView, wanted, size_asked, sizing, held, framing, ready, waiting, writing, ended}
 use Rattle.conn_state.specs.Step.{after_admission, after_size, after_payload_bytes, after_bytes, after_took, after_answer, after_wrote, after_end_of_input}

@@ -10,7 +10,7 @@ ghost use Rattle.conn_table.specs.Table.{fresh_slot, slot_of, with_state, with_s
 use crate::places::{Places, Slot};
 use conn_state::{Conn, EndCause};
 use limits::MOST_CONNECTIONS;
-use outside::Settled;
+use streams::Settled;
 use std::alloc::{AllocError, Global};
 use std::marker::Model;
 

@@ -9,7 +9,7 @@ use Rattle.std.proofs.lemmas.List.Elements.{All-from_get_or}
 use Rattle.wire_num.specs.Varint.{decode_varint, IsVarint, varint_bytes}
 use Rattle.wire_num.proofs.Varints.{varint_decodes, put_32}
 use Rattle.wire_num.proofs.Widths.{wide_32}
-use Rattle.outside.specs.declared.outcomes.EnvelopeFault.TheVariants.{Version, NameSize}
+use Rattle.streams.specs.declared.outcomes.EnvelopeFault.TheVariants.{Version, NameSize}
 use Rattle.envelope.specs.declared.head.Protocol.TheVariants.{Compact}
 use Rattle.envelope.specs.Said.{Said, FitsHead}
 use Rattle.envelope.specs.Spelling.{compact_form, compact_id, compact_name, compact_text, IsCompactSpelling}

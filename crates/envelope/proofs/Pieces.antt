@@ -12,7 +12,7 @@ use Rattle.wire_num.specs.Fixed.{signed_of, signed_bytes}
 use Rattle.wire_num.proofs.Fronts.{front_found, front_only}
 use Rattle.wire_num.proofs.Numbers.{byte_decodes, signed_decodes}
 use Rattle.wire_num.proofs.Widths.{byte_at, wide_32}
-use Rattle.outside.specs.declared.outcomes.EnvelopeFault.{EnvelopeFault}
+use Rattle.streams.specs.declared.outcomes.EnvelopeFault.{EnvelopeFault}
 use Rattle.envelope.specs.declared.head.Protocol.{Protocol}
 use Rattle.envelope.specs.Said.{Said}
 use Rattle.envelope.specs.Spelling.{IsSpelling}

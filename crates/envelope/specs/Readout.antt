@@ -1,8 +1,8 @@
 -- Reading a head: what it says, or the first fault in reading order (Thrift binary and compact protocol, 'Message').
 use Rattle.std.specs.Prelude.{◌≡◌, ⊤, ◌-◌, ◌/◌, ◌%◌, ◌^◌, ◌==◌, ◌&&◌, ◌||◌, ℕ, ℤ, pos, negsuc, Bool, List, ◌++◌, length, slice_index, nat_lt, Result, Ok, Err, if◌then◌else◌}
 use Rattle.std.specs.Int.{w32, cast_signed}
-use Rattle.outside.specs.declared.outcomes.EnvelopeFault.{EnvelopeFault}
-use Rattle.outside.specs.declared.outcomes.EnvelopeFault.TheVariants.{Short, Version, NameSize, LongVarint, MessageType}
+use Rattle.streams.specs.declared.outcomes.EnvelopeFault.{EnvelopeFault}
+use Rattle.streams.specs.declared.outcomes.EnvelopeFault.TheVariants.{Short, Version, NameSize, LongVarint, MessageType}
 use Rattle.wire_num.specs.declared.fault.NumFault.{NumFault}
 use Rattle.wire_num.specs.declared.fault.NumFault.TheVariants as number
 use Rattle.wire_num.specs.Decoding.{decode_bytes, decode_byte, decode_signed}

@@ -2,7 +2,7 @@
 
 ghost use Rattle.std.specs.Prelude.{◌≡◌};
 
-use outside::EnvelopeFault;
+use streams::EnvelopeFault;
 use std::alloc::AllocError;
 use std::marker::Model;
 use thiserror::Error;

@@ -5,7 +5,7 @@ ghost use Rattle.envelope.specs.Readout.{reply_head_at, IsHead, IsHeadOrNoMemory
 
 use super::head::{Head, HeadFault, LentHead, Protocol};
 use super::read::{kept, whole_head};
-use outside::EnvelopeFault;
+use streams::EnvelopeFault;
 use std::alloc::Global;
 
 /// The type of a reply.

@@ -2,7 +2,7 @@
 
 use crate::{compact_head_vectors, head_vectors};
 use envelope::{HeadFault, Protocol, read_head, write_head};
-use outside::EnvelopeFault::{self, MessageType, Short};
+use streams::EnvelopeFault::{self, MessageType, Short};
 use std::alloc::{AllocError, Global};
 use std::test::Fail;
 

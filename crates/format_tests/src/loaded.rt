@@ -4,7 +4,7 @@ ghost use Rattle.std.specs.Prelude.{IfOk};
 ghost use Rattle.idl_include.specs.SourcesOf.{AreFiles, sources_in};
 
 use idl_include::{LoadFault, Sources, load};
-use outside::MemFiles;
+use streams::MemFiles;
 use std::alloc::{AllocError, Global};
 
 /// A file's name and its text.

@@ -1,6 +1,6 @@
 //! The system's streams and files, of which no contract tells what they give and take.
 
-use outside::{Failed, FileFail, Files, RealFiles, RealIn, RealOut, Sink, Source, write_all};
+use streams::{Failed, FileFail, Files, RealFiles, RealIn, RealOut, Sink, Source, write_all};
 use std::alloc::Global;
 use std::io;
 use std::test::Fail;

@@ -5,7 +5,7 @@ use host_model::plain::{
     Decided, PlainDesk, PlainEntry, PlainServices, after, called, entries_of, input, is_legal,
     marks_of, output, sent, split,
 };
-use outside::{Bytes, EnvelopeFault, Mark};
+use streams::{Bytes, EnvelopeFault, Mark};
 use std::alloc::{AllocError, Global};
 use std::process::Abort;
 use std::test::Fail;

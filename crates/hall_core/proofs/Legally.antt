@@ -1,7 +1,7 @@
 -- The journal of a hall is a legal history of its services, and leaves the memories that they have unless it failed.
 use Rattle.std.proofs.Common.{◌≡◌, ℕ, ◌⊎◌, Bool, true, false, List, [], ◌∷◌, ◌++◌, map, refl, sym, ap, ◌∙◌, subst, inl, inr, ⊎_elim}
 use Rattle.std.proofs.lemmas.Bool.{true≢false}
-use Rattle.outside.specs.Cause.{Rose}
+use Rattle.streams.specs.Cause.{Rose}
 use Rattle.host_model.specs.declared.key.Key.{Key}
 use Rattle.host_model.specs.Journal.{JournalEntry, ServiceRules, after, after_call, IsAnswered, Legal}
 use Rattle.host_model.proofs.Filters.{legal_push}

@@ -1,7 +1,7 @@
 -- What a call that is applied does to a hall, as the machine's rule has it.
 use Rattle.std.proofs.Common.{◌≡◌, ℕ, Bool, true, false, None, Some, Option, Result, Ok, Err, List, [], ◌∷◌, ◌++◌, option_map, refl, sym, ap, ◌∙◌, subst, inl, inr, arith}
 use Rattle.std.specs.Prelude.{MatchResult, IfOk, is_err}
-use Rattle.outside.specs.Cause.{HasCause}
+use Rattle.streams.specs.Cause.{HasCause}
 use Rattle.host_model.specs.declared.key.Key.{Key}
 use Rattle.host_model.specs.Journal.{after_call}
 use Rattle.call_rules.specs.declared.call.Answer.{Answer}

@@ -14,7 +14,7 @@ ghost use Rattle.hall_core.specs.Asked.{answer_of};
 
 use crate::operation::HallReply;
 use call_rules::{Answer, Call, Entry, Handler, Journal, Key};
-use outside::Failed;
+use streams::Failed;
 use std::alloc::{AllocError, Global};
 use thrift_value::Value;
 

@@ -9,7 +9,7 @@ use crate::operation::{HallOp, HallReply};
 use crate::queue::Queue;
 use crate::queueing::{collect, put, submit, take};
 use call_rules::{Handler, Journal, Key};
-use outside::{Bytes, Settled};
+use streams::{Bytes, Settled};
 use seat_booth::Object;
 use std::alloc::Global;
 use std::marker::Model;

@@ -1,7 +1,7 @@
 //! A job, as it waits in a hall and as a worker holds it.
 
 use call_rules::Key;
-use outside::Bytes;
+use streams::Bytes;
 use std::marker::Model;
 
 /// A payload, under the key of its frame.

@@ -1,7 +1,7 @@
 //! What holds of every hall, whoever calls it: the contract of a function that does nothing.
 
 ghost use Rattle.std.specs.Prelude.{◌≡◌, ◌⊎◌, List, []};
-ghost use Rattle.outside.specs.Cause.{Rose};
+ghost use Rattle.streams.specs.Cause.{Rose};
 ghost use Rattle.host_model.specs.Journal.{after, Legal};
 ghost use Rattle.call_history.specs.History.{meaning_after, IsHistory};
 ghost use Rattle.call_rules.specs.Entries.{CallEntry};

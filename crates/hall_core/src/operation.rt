@@ -1,7 +1,7 @@
 //! What a hall is asked, and what it replies.
 
 use call_rules::{Answer, Call, Key};
-use outside::{Bytes, Settled};
+use streams::{Bytes, Settled};
 
 /// What a hall is asked.
 #[derive(Drop)]

@@ -9,7 +9,7 @@ ghost use Rattle.hall_core.specs.Queues.{keys_held};
 use crate::job::Job;
 use call_rules::Key;
 use limits::MOST_CONNECTIONS;
-use outside::{Bytes, Settled};
+use streams::{Bytes, Settled};
 use std::alloc::{AllocError, Global};
 use std::collections::VecDeque;
 use std::marker::Model;

@@ -14,7 +14,7 @@ use crate::job::Job;
 use crate::operation::HallReply;
 use crate::queue::Queue;
 use call_rules::Key;
-use outside::{Bytes, Settled};
+use streams::{Bytes, Settled};
 
 /// Submits a job.
 pub(crate) fn submit(queue: &mut Queue, closed: bool, key: Key, payload: Bytes) -> HallReply

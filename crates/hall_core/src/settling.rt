@@ -10,7 +10,7 @@ ghost use Rattle.hall_core.specs.NextSteps.{IsNextFor};
 
 use crate::job::Job;
 use call_rules::{Answer, Call, Decision, Desk};
-use outside::{Bytes, Settled};
+use streams::{Bytes, Settled};
 use std::alloc::Global;
 
 /// What is next for a job that was taken.

@@ -3,7 +3,7 @@ use Rattle.std.proofs.Common.{◌≡◌, ◌≢◌, ℕ, None, Some, List, [], �
 use Rattle.std.specs.List.{AllByRecursion, flat_map}
 use Rattle.std.proofs.lemmas.List.{flat_map_more}
 use Rattle.std.proofs.lemmas.Grind.{flat_map-append}
-use Rattle.outside.specs.declared.outcomes.Settled.{Settled}
+use Rattle.streams.specs.declared.outcomes.Settled.{Settled}
 use Rattle.host_model.specs.declared.key.Key.{Key}
 use Rattle.host_model.proofs.Lists.{nil-cons}
 use Rattle.call_rules.specs.PlainCalls.{PlainCall, PlainAnswer}

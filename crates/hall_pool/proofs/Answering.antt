@@ -1,7 +1,7 @@
 -- What a call at a booth round a hall answers, by the hall's rule.
 use Rattle.std.proofs.Common.{◌≡◌, ◌⊎◌, Option, None, Some, List, [], ◌∷◌, ◌++◌, map, refl, ap, ◌∙◌, subst, inl, inr}
 use Rattle.std.proofs.lemmas.List.{map-append}
-use Rattle.outside.specs.declared.outcomes.Settled.{Settled}
+use Rattle.streams.specs.declared.outcomes.Settled.{Settled}
 use Rattle.host_model.specs.declared.key.Key.{Key}
 use Rattle.host_model.specs.Journal.{ServiceRules}
 use Rattle.call_history.specs.History.{seat_call, meaning_after, IsHistory}

@@ -1,6 +1,6 @@
 -- What a worker knows once it has applied a call, put an outcome or closed the hall.
 use Rattle.std.proofs.Common.{◌≡◌, ◌⊎◌, ℕ, true, false, Some, List, sym, ap, ◌∙◌, subst, inl, inr, ⊎_elim}
-use Rattle.outside.specs.declared.outcomes.Settled.{Settled}
+use Rattle.streams.specs.declared.outcomes.Settled.{Settled}
 use Rattle.host_model.specs.declared.key.Key.{Key}
 use Rattle.host_model.specs.DeskRules.{Invoke}
 use Rattle.call_history.specs.Calls.{seat_ask}

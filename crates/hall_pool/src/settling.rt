@@ -8,7 +8,7 @@ ghost use Rattle.hall_pool.specs.Jobs.{IsOpenedFor, HoldsJob, SettlesJob};
 use crate::asking::{Tried, apply};
 use call_rules::{Call, Desk, Handler, Journal};
 use hall_core::{Hall, Job, NextStep, next_step, settled_with};
-use outside::Settled;
+use streams::Settled;
 use seat_booth::{Booth, Seat};
 use std::alloc::Global;
 use std::sync::Wait;

@@ -2,7 +2,7 @@
 use Rattle.std.proofs.Common.{◌≡◌, ℕ, ◌+◌, Bool, true, false, ◌||◌, List, [], ◌∷◌, ◌++◌, refl, ap, ◌∙◌, subst, arith, append_assoc}
 use Rattle.std.specs.List.{AllByRecursion}
 use Rattle.std.proofs.lemmas.Option.{IfSome_then}
-use Rattle.outside.specs.declared.answers.RestPlace.{RestPlace}
+use Rattle.streams.specs.declared.rest_place.RestPlace.{RestPlace}
 use Rattle.outside.specs.LinksState.{LinksState}
 use Rattle.call_history.specs.Calls.{seat_ask}
 use Rattle.call_rules.specs.PlainCalls.{PlainCall, PlainAnswer}

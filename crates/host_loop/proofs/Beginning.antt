@@ -2,7 +2,7 @@
 use Rattle.std.proofs.Common.{◌≡◌, ◌≤◌, Option, None, Some, IfSome, List, [], ◌∷◌, ◌++◌, length, refl, sym, ap, subst, arith}
 use Rattle.std.specs.List.{AllByRecursion}
 use Rattle.std.proofs.lemmas.Option.{none-some}
-use Rattle.outside.specs.declared.marks.Mark.{Mark}
+use Rattle.streams.specs.declared.marks.Mark.{Mark}
 use Rattle.outside.specs.LinksState.{LinksState}
 use Rattle.outside.specs.Opening.{AreFreshLinks}
 use Rattle.host_model.proofs.Lists.{nil-cons}

@@ -5,11 +5,11 @@ use Rattle.std.proofs.lemmas.Bool.{cases_lt, false_from_ne_true}
 use Rattle.std.proofs.lemmas.Option.{none-some, slice_get-get_or, slice_get_past, get_or_from_slice_get, IfSome_then}
 use Rattle.std.proofs.lemmas.List.{length-set}
 use Rattle.std.proofs.lemmas.List.Elements.{All-from_recursion, recursion_from_All}
-use Rattle.outside.specs.declared.marks.Mark.{Mark}
-use Rattle.outside.specs.declared.marks.Mark.TheVariants.{Read, Wrote}
-use Rattle.outside.specs.declared.answers.RestPlace.{RestPlace}
-use Rattle.outside.specs.Cause.{Rose}
-use Rattle.outside.specs.Content.{IsSpent}
+use Rattle.streams.specs.declared.marks.Mark.{Mark}
+use Rattle.streams.specs.declared.marks.Mark.TheVariants.{Read, Wrote}
+use Rattle.streams.specs.declared.rest_place.RestPlace.{RestPlace}
+use Rattle.streams.specs.Cause.{Rose}
+use Rattle.streams.specs.Content.{IsSpent}
 use Rattle.host_model.specs.declared.cause.EndCause.{EndCause}
 use Rattle.host_model.specs.declared.cause.EndCause.TheVariants.{End, Cut, SizeFault, Envelope, ReadFault, WriteFault, NoMemory as RanOut, Stopped}
 use Rattle.host_model.specs.Marks.{marks_of, input, output}

@@ -1,7 +1,7 @@
 -- What calls of the loop's parts keep of it while it serves.
 use Rattle.std.proofs.Common.{◌≡◌, ℕ, ◌≤◌, arith, Bool, true, false, IsSome, List, [], ◌∷◌, ◌++◌, refl, sym, ap, ◌∙◌, subst, inl, append-nil}
-use Rattle.outside.specs.Cause.{Rose}
-use Rattle.outside.specs.declared.outcomes.Settled.{Settled}
+use Rattle.streams.specs.Cause.{Rose}
+use Rattle.streams.specs.declared.outcomes.Settled.{Settled}
 use Rattle.outside.specs.LinksState.{LinksState}
 use Rattle.host_model.specs.declared.key.Key.{Key}
 use Rattle.conn_table.specs.declared.run_limits.Limits.{Limits}

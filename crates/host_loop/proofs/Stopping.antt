@@ -1,7 +1,7 @@
 -- The loop ends: what is open is stopped, and the hall is closed.
 use Rattle.std.proofs.Common.{◌≡◌, ◌≤◌, true, false, List, [], ◌∷◌, ◌++◌, refl, sym, ap, ◌∙◌, subst, inl, inr, append_assoc, arith}
 use Rattle.std.proofs.lemmas.Bool.{true≢false}
-use Rattle.outside.specs.Cause.{next_count}
+use Rattle.streams.specs.Cause.{next_count}
 use Rattle.outside.specs.LinksState.{LinksState}
 use Rattle.conn_table.specs.declared.run_limits.Limits.{Limits}
 use Rattle.conn_table.specs.declared.run_limits.Outcome.{Outcome}

@@ -1,6 +1,6 @@
 -- What is known where serving ends: the loop's connections, the seats of its booth and the hall, each as it is left.
 use Rattle.std.specs.Prelude.{◌≡◌, ◌≤◌, ◌⊎◌, true, false, List, [], ◌∷◌, ◌++◌, All}
-use Rattle.outside.specs.Cause.{Rose}
+use Rattle.streams.specs.Cause.{Rose}
 use Rattle.outside.specs.Opening.{AreFreshLinks}
 use Rattle.conn_table.specs.declared.run_limits.Outcome.{Outcome}
 use Rattle.conn_table.specs.declared.run_limits.Outcome.TheVariants.{All as AllOver, NetFault, JournalFault, NoMemory}

@@ -1,6 +1,6 @@
 -- What holds of a loop while it serves, and what is known of it where it has halted.
 use Rattle.std.specs.Prelude.{◌≡◌, ◌≤◌, ◌⊎◌, Bool, true, false, Result, MatchResult, ℕ, []}
-use Rattle.outside.specs.Cause.{Rose}
+use Rattle.streams.specs.Cause.{Rose}
 use Rattle.outside.specs.LinksState.{LinksState}
 use Rattle.conn_table.specs.declared.run_limits.Limits.{Limits}
 use Rattle.conn_table.specs.declared.run_limits.Outcome.{Outcome}

@@ -1,7 +1,7 @@
 -- How much a loop lends to a read, and offers to a write: what is missing, and all that is left.
 use Rattle.std.specs.Prelude.{◌≡◌, ℕ, ◌+◌, min, Some, List, ◌∷◌, ◌++◌, length, slice_get}
-use Rattle.outside.specs.declared.marks.Mark.{Mark}
-use Rattle.outside.specs.declared.marks.Mark.TheVariants.{Read, Wrote}
+use Rattle.streams.specs.declared.marks.Mark.{Mark}
+use Rattle.streams.specs.declared.marks.Mark.TheVariants.{Read, Wrote}
 use Rattle.host_model.specs.Frames.{Frames}
 use Rattle.host_model.specs.Marks.{marks_of, input, output}
 use Rattle.host_model.specs.Journal.{JournalEntry, entries_of}

@@ -1,8 +1,8 @@
 -- The places of rest that links noted: nothing was owed there, and where a connection was held, the frames under way ask for more than the budget.
 use Rattle.std.specs.Prelude.{◌≡◌, ℕ, true, List, ◌++◌, length}
 use Rattle.std.specs.List.{AllByRecursion}
-use Rattle.outside.specs.declared.marks.Mark.{Mark}
-use Rattle.outside.specs.declared.answers.RestPlace.{RestPlace}
+use Rattle.streams.specs.declared.marks.Mark.{Mark}
+use Rattle.streams.specs.declared.rest_place.RestPlace.{RestPlace}
 use Rattle.host_model.specs.Journal.{JournalEntry}
 use Rattle.host_model.specs.DeskRules.{DeskRules}
 use Rattle.machine_model.specs.Resting.{IsPlaceOfRest}

@@ -13,7 +13,7 @@ ghost use Rattle.host_loop.specs.Asked.{took_so, SubmitsJob, collected_reply, Co
 
 use call_rules::{Handler, Journal, Key};
 use hall_core::{Hall, HallOp, HallReply};
-use outside::{Bytes, Settled};
+use streams::{Bytes, Settled};
 use seat_booth::{Booth, Seat};
 use std::sync::Wait;
 

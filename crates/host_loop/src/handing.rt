@@ -10,7 +10,8 @@ use crate::holdings::{Run, Serving};
 use call_rules::{Desk, Handler, Journal, Key};
 use conn_table::Outcome;
 use hall_core::Hall;
-use outside::{Bytes, Links};
+use outside::Links;
+use streams::Bytes;
 use seat_booth::Object;
 use std::sync::Wait;
 

@@ -9,7 +9,8 @@ use crate::holdings::{Run, Serving};
 use call_rules::{Desk, Handler, Journal};
 use conn_table::Outcome;
 use hall_core::Hall;
-use outside::{Failed, Gate, Hint, Links};
+use outside::{Gate, Hint, Links};
+use streams::Failed;
 use std::sync::Wait;
 
 impl<H: Handler, J: Journal> Serving<Hall<H, J>> {

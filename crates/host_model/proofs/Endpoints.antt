@@ -1,6 +1,6 @@
 -- An endpoint keeps its conversation when it moves, and when the call of its pending payload is entered.
 use Rattle.std.proofs.Common.{◌≡◌, ℕ, ◌+◌, ◌≤◌, None, List, [], ◌∷◌, ◌++◌, length, refl, sym, ap, ◌∙◌, subst, inl, arith, append-nil, length-append}
-use Rattle.outside.specs.declared.marks.Mark.{Mark}
+use Rattle.streams.specs.declared.marks.Mark.{Mark}
 use Rattle.host_model.specs.declared.cause.EndCause.TheVariants.{Envelope}
 use Rattle.host_model.specs.Marks.{output}
 use Rattle.host_model.specs.Journal.{JournalEntry}

@@ -3,7 +3,7 @@ use Rattle.std.proofs.Common.{◌≡◌, ℕ, zero, suc, ◌<◌, ◌⊎◌, Boo
 use Rattle.std.specs.List.{AllByRecursion}
 use Rattle.std.proofs.lemmas.List.Elements.{filter-append}
 use Rattle.std.proofs.lemmas.Option.{none-some, same_Some}
-use Rattle.outside.specs.declared.marks.Mark.{Mark}
+use Rattle.streams.specs.declared.marks.Mark.{Mark}
 use Rattle.host_model.specs.Marks.{connection_of, marks_of}
 use Rattle.host_model.specs.Journal.{JournalEntry, ServiceRules, entries_of, after_call, after, IsAnswered, Legal}
 use Rattle.host_model.specs.World.{Endpoint, Move, opens, reads, reads_frame, reads_bad_size, ends, fails_read, settles, replies, closes, writes, fails_write, gives_up, marks_by, with_endpoint}

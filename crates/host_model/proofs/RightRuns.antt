@@ -5,7 +5,7 @@ use Rattle.std.proofs.lemmas.Int.{to_z-of_z}
 use Rattle.std.proofs.lemmas.Nat.{from_be_bytes-to_be_bytes_4}
 use Rattle.std.proofs.lemmas.Option.{slice_get_past}
 use Rattle.host_model.specs.declared.cause.EndCause.{EndCause}
-use Rattle.outside.specs.declared.marks.Mark.TheVariants.{Opened, Read, Ended, Wrote, Closed}
+use Rattle.streams.specs.declared.marks.Mark.TheVariants.{Opened, Read, Ended, Wrote, Closed}
 use Rattle.host_model.specs.declared.cause.EndCause.TheVariants.{End, Stopped}
 use Rattle.host_model.specs.Frames.{size_bytes, IsOutside, IsPartial, HasNoBadSize}
 use Rattle.host_model.specs.Journal.{entries_of}

@@ -1,6 +1,6 @@
 -- Being in turn while the connection goes on: where n payloads are settled, there are no more, or one more that was just read.
 use Rattle.std.proofs.Common.{◌≡◌, ◌≢◌, ℕ, ◌+◌, ◌≤◌, ◌⊎◌, List, [], ◌∷◌, ◌++◌, length, take, sym, ap, ◌∙◌, subst, inl, inr, arith, append-nil, length-append, take_all}
-use Rattle.outside.specs.declared.marks.Mark.{Mark}
+use Rattle.streams.specs.declared.marks.Mark.{Mark}
 use Rattle.host_model.specs.Frames.{Frames}
 use Rattle.host_model.specs.Marks.{input, output}
 use Rattle.host_model.specs.Journal.{JournalEntry}

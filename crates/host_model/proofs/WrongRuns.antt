@@ -3,9 +3,9 @@ use Rattle.std.proofs.Common.{◌≡◌, ℕ, ◌<◌, ◌<ℤ◌, ◌⊎◌, po
 use Rattle.std.specs.Int.{w32}
 use Rattle.std.proofs.lemmas.List.{same_from_push}
 use Rattle.std.specs.List.{flat_map, AllByRecursion}
-use Rattle.outside.specs.declared.outcomes.EnvelopeFault.TheVariants.{Short}
-use Rattle.outside.specs.declared.marks.Mark.{Mark}
-use Rattle.outside.specs.declared.marks.Mark.TheVariants.{Opened, Read, Ended, Wrote, ReadFailed, WriteFailed, Closed}
+use Rattle.streams.specs.declared.outcomes.EnvelopeFault.TheVariants.{Short}
+use Rattle.streams.specs.declared.marks.Mark.{Mark}
+use Rattle.streams.specs.declared.marks.Mark.TheVariants.{Opened, Read, Ended, Wrote, ReadFailed, WriteFailed, Closed}
 use Rattle.host_model.specs.declared.cause.EndCause.TheVariants.{End, Cut, SizeFault, Envelope, ReadFault, WriteFault, Stopped}
 use Rattle.host_model.specs.Frames.{Frames, frame, ArePayloads, IsOutside}
 use Rattle.host_model.specs.Marks.{marks_of, input, IsTransfer}

@@ -1,6 +1,6 @@
 -- What decides on messages and replies to calls (Thrift: a processor).
 use Rattle.std.specs.Prelude.{ℕ, Bool, List}
-use Rattle.outside.specs.declared.outcomes.EnvelopeFault.{EnvelopeFault}
+use Rattle.streams.specs.declared.outcomes.EnvelopeFault.{EnvelopeFault}
 
 -- What is decided on a payload: its head is refused, which ends the connection; it gets no reply and makes no call; it gets this reply without a
 -- call; or it makes this call.

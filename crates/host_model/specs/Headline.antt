@@ -1,6 +1,6 @@
 -- What is promised of a whole run.
 use Rattle.std.specs.Prelude.{◌≡◌, ℕ, ◌≤◌, Some, List, [], length, slice_get}
-use Rattle.outside.specs.declared.marks.Mark.{Mark}
+use Rattle.streams.specs.declared.marks.Mark.{Mark}
 use Rattle.host_model.specs.declared.cause.EndCause.{EndCause}
 use Rattle.host_model.specs.Marks.{marks_of}
 use Rattle.host_model.specs.Journal.{JournalEntry, ServiceRules, Legal, entries_of}

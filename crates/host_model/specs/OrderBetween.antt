@@ -2,7 +2,7 @@
 -- was not yet whole.
 use Rattle.std.specs.Prelude.{◌≡◌, ℕ, ◌<◌, false, Some, List, ◌++◌, length, take, slice_get}
 use Rattle.std.specs.List.{flat_map}
-use Rattle.outside.specs.declared.marks.Mark.{Mark}
+use Rattle.streams.specs.declared.marks.Mark.{Mark}
 use Rattle.host_model.specs.Frames.{Frames, ArePayloads, frame}
 use Rattle.host_model.specs.Marks.{marks_of, input, output}
 use Rattle.host_model.specs.Journal.{JournalEntry, entries_of}

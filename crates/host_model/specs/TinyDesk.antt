@@ -1,7 +1,7 @@
 -- A tiny desk over numbers, with a service that counts its calls, for examples.
 use Rattle.std.specs.Prelude.{ℕ, suc, ◌==◌, if◌then◌else◌, List, [], ◌∷◌}
-use Rattle.outside.specs.declared.outcomes.EnvelopeFault.TheVariants.{Short}
-use Rattle.outside.specs.declared.marks.Mark.{Mark}
+use Rattle.streams.specs.declared.outcomes.EnvelopeFault.TheVariants.{Short}
+use Rattle.streams.specs.declared.marks.Mark.{Mark}
 use Rattle.host_model.specs.declared.cause.EndCause.{EndCause}
 use Rattle.host_model.specs.Journal.{JournalEntry, ServiceRules}
 use Rattle.host_model.specs.DeskRules.{DeskRules, DeskDecision, Close, Silent, Reply, Invoke}

@@ -1,4 +1,4 @@
-use outside::EnvelopeFault;
+use streams::EnvelopeFault;
 
 /// Why a connection ended.
 #[derive(Clone, Copy, PartialEq, Eq)]

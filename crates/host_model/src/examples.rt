@@ -1,8 +1,8 @@
 //! Examples: runs of a tiny desk, each the contract of a function that does nothing.
 
 ghost use Rattle.std.specs.Prelude.{◌≡◌, pos, List, [], ◌∷◌};
-ghost use Rattle.outside.specs.declared.outcomes.EnvelopeFault.TheVariants.{Short};
-ghost use Rattle.outside.specs.declared.marks.Mark.TheVariants.{Opened, Read, Ended, Wrote, ReadFailed, WriteFailed, Closed};
+ghost use Rattle.streams.specs.declared.outcomes.EnvelopeFault.TheVariants.{Short};
+ghost use Rattle.streams.specs.declared.marks.Mark.TheVariants.{Opened, Read, Ended, Wrote, ReadFailed, WriteFailed, Closed};
 ghost use Rattle.host_model.specs.declared.cause.EndCause.TheVariants.{End, Cut, SizeFault, Envelope, ReadFault, WriteFault, Stopped};
 ghost use Rattle.host_model.specs.Journal.{Legal};
 ghost use Rattle.host_model.specs.Conversation.{called, sent};

@@ -3,7 +3,8 @@
 use calculator::Calculator;
 use call_rules::Handler;
 use house_handlers::{Mirror, Store};
-use outside::{Binder, EmptyGate, Files, Gate, MemFiles, MemSink, MemSource, Sink, Source};
+use outside::{Binder, EmptyGate, Gate};
+use streams::{Files, MemFiles, MemSink, MemSource, Sink, Source};
 use script_links::MemBinder;
 use script_text::read_script;
 use std::alloc::{AllocError, Global};

@@ -3,7 +3,7 @@ use Rattle.std.proofs.Common.{◌≡◌, ◌≢◌, ℕ, zero, suc, Bool, true, 
 use Rattle.std.specs.Prelude.{⊤}
 use Rattle.std.specs.Str.{bytes_eq, is_utf8}
 use Rattle.std.specs.List.{list_any, position_from}
-use Rattle.outside.specs.Files.{File, content_of}
+use Rattle.streams.specs.Files.{File, content_of}
 use Rattle.idl_token.specs.declared.LexKind.{LexKind}
 use Rattle.idl_token.specs.declared.LexKind.TheVariants as lex
 use Rattle.idl_token.specs.declared.terminal.Terminal.{Terminal}

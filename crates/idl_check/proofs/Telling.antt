@@ -4,7 +4,7 @@ use Rattle.std.specs.Prelude.{⊤}
 use Rattle.std.specs.Option.{option_and_then, option_map}
 use Rattle.std.proofs.lemmas.Option.{slice_get-map}
 use Rattle.std.proofs.lemmas.List.{length-map}
-use Rattle.outside.specs.Files.{File}
+use Rattle.streams.specs.Files.{File}
 use Rattle.idl_token.specs.declared.Place.{Place}
 use Rattle.idl_include.specs.Readings.{LoadFlawKind, FileReading}
 use Rattle.idl_include.specs.Loading.{Loaded, loaded, stopped, program_of}

@@ -1,6 +1,6 @@
 -- An IDL has a verdict, where files are told, and one alone.
 use Rattle.std.proofs.Common.{◌≡◌, ◌⊎◌, ℕ, Bool, true, false, List, slice_get, Some, refl, sym, ap, subst, ◌∙◌, inl, inr}
-use Rattle.outside.specs.Files.{File}
+use Rattle.streams.specs.Files.{File}
 use Rattle.idl_token.specs.declared.Place.{Place}
 use Rattle.idl_include.specs.Program.{SourceFile, Program}
 use Rattle.idl_include.specs.Readings.{FileReading, IsReaderOf}

@@ -2,7 +2,7 @@
 use Rattle.std.specs.Prelude.{ℕ, List, [], ◌∷◌, codes}
 use Rattle.std.specs.List.{flat_map}
 use Rattle.text_out.specs.Line.{line_of}
-use Rattle.outside.specs.Files.{File}
+use Rattle.streams.specs.Files.{File}
 
 -- tutorial.thrift
 abbrev pub tutorial_file_lines : List (List ℕ)

@@ -1,7 +1,7 @@
 -- The verdict on an IDL: the schema of its program of files, or the first fault of it.
 use Rattle.std.specs.Prelude.{◌≡◌, ⊤, ℕ, Bool, true, false, List, codes, slice_get, Option, Some, None}
 use Rattle.std.specs.Str.{bytes_eq}
-use Rattle.outside.specs.Files.{File}
+use Rattle.streams.specs.Files.{File}
 use Rattle.idl_token.specs.declared.Place.{Place}
 use Rattle.idl_include.specs.Program.{SourceFile, Program}
 use Rattle.idl_include.specs.Readings.{FileReading, IsReaderOf}

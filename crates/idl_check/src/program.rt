@@ -1,7 +1,7 @@
 //! The schema of an IDL's program of files, and its text.
 
 ghost use Rattle.std.specs.Prelude.{◌≡◌, ◌≤◌, ◌<◌, true, false, ℕ, length, IfErr, IfOk, MatchResult, OnOk};
-ghost use Rattle.outside.specs.Cause.{Rose};
+ghost use Rattle.streams.specs.Cause.{Rose};
 ghost use Rattle.schema.specs.SchemaOf.{schema_of};
 ghost use Rattle.schema.specs.SchemaText.{schema_text};
 ghost use Rattle.schema.specs.Sound.{IsSound};
@@ -22,7 +22,7 @@ use check_passes::CheckFault;
 use idl_include::laws::each_file_is_read_as_one_thing;
 use idl_include::{IdlFile, LoadFault, LoadKind, Sources, load};
 use idl_token::Place;
-use outside::Files;
+use streams::Files;
 use schema::Schema;
 use std::alloc::{AllocError, Global};
 

@@ -1,7 +1,7 @@
 //! What holds of the verdicts on IDLs.
 
 ghost use Rattle.std.specs.Prelude.{◌≡◌, ℕ, List, Some};
-ghost use Rattle.outside.specs.Files.{File};
+ghost use Rattle.streams.specs.Files.{File};
 ghost use Rattle.idl_check.specs.Verdicts.{IdlVerdict, IsIdlVerdict};
 
 use check_model::laws::a_schema_or_a_first_flaw;

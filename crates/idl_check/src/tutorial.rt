@@ -3,7 +3,7 @@
 ghost use Rattle.std.specs.Prelude.{◌≡◌, string_bytes, IfOk};
 ghost use Rattle.idl_check.specs.Tutorial.{tutorial_file_text, shared_text, tutorial_files};
 
-use outside::MemFiles;
+use streams::MemFiles;
 use std::alloc::{AllocError, Global};
 
 /// The text of tutorial.thrift without its comments.

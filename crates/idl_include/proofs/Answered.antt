@@ -3,7 +3,7 @@ use Rattle.std.proofs.Common.{◌≡◌, ◌<◌, ℕ, suc, Bool, true, false, L
 use Rattle.std.specs.Prelude.{if◌then◌else◌}
 use Rattle.std.specs.Str.{bytes_eq}
 use Rattle.std.specs.List.{list_any}
-use Rattle.outside.specs.Files.{File, content_of}
+use Rattle.streams.specs.Files.{File, content_of}
 use Rattle.idl_parser.specs.Unplaced.{nowhere}
 use Rattle.idl_include.specs.Readings.{LoadFlawKind, unread, IsHeldReadAs, IsReaderOf}
 use Rattle.idl_include.specs.Loading.{Loaded, loaded, most_files, program_of}

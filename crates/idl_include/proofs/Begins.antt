@@ -6,8 +6,8 @@ use Rattle.std.specs.List.{list_any}
 use Rattle.std.proofs.lemmas.Bool.{false≢true, lt-leb}
 use Rattle.std.proofs.lemmas.List.{map-append, length-map}
 use Rattle.std.proofs.lemmas.List.Elements.{All-push, All-weaker}
-use Rattle.outside.specs.Files.{File}
-use Rattle.outside.specs.Cause.{Rose}
+use Rattle.streams.specs.Files.{File}
+use Rattle.streams.specs.Cause.{Rose}
 use Rattle.idl_token.specs.declared.Place.{Place}
 use Rattle.idl_parser.specs.declared.tree.Document.{Document}
 use Rattle.idl_parser.specs.Phrases.{Node}

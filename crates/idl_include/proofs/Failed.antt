@@ -1,9 +1,9 @@
 -- A file couldn't be read.
 use Rattle.std.proofs.Common.{◌≡◌, ◌<◌, ℕ, Bool, true, false, nat_le, List, length, Option, None, Some, Result, Ok, Err, IfErr, refl, ap, sym, subst, ◌∙◌, leb-false}
 use Rattle.std.proofs.lemmas.Bool.{false≢true}
-use Rattle.outside.specs.Files.{File, content_of, fits, IsLonger, IsWholeFile}
-use Rattle.outside.specs.declared.files.FileFail.{FileFail}
-use Rattle.outside.specs.declared.files.FileFail.TheVariants as fails
+use Rattle.streams.specs.Files.{File, content_of, fits, IsLonger, IsWholeFile}
+use Rattle.streams.specs.declared.files.FileFail.{FileFail}
+use Rattle.streams.specs.declared.files.FileFail.TheVariants as fails
 use Rattle.idl_token.specs.Limits.{longest_idl_text}
 use Rattle.idl_parser.specs.Unplaced.{nowhere}
 use Rattle.idl_parser.specs.declared.tree.Document.{Document}

@@ -7,7 +7,7 @@ use Rattle.std.specs.List.{list_any, position_from}
 use Rattle.std.proofs.lemmas.List.{length-map}
 use Rattle.std.proofs.lemmas.List.Elements.{All-head, All-tail}
 use Rattle.std.specs.Prelude.{All}
-use Rattle.outside.specs.Files.{File}
+use Rattle.streams.specs.Files.{File}
 use Rattle.idl_token.specs.declared.Place.{Place}
 use Rattle.idl_include.specs.Written.{Written}
 use Rattle.idl_include.specs.FileNames.{base_name, included_name}

@@ -1,6 +1,6 @@
 -- A file is read as something, and as one thing alone.
 use Rattle.std.proofs.Common.{◌≡◌, ◌⊎◌, inl, inr, ℕ, Bool, true, false, nat_le, List, length, Option, None, Some, refl, ap, sym, subst, ◌∙◌}
-use Rattle.outside.specs.Files.{File, content_of}
+use Rattle.streams.specs.Files.{File, content_of}
 use Rattle.idl_token.specs.declared.Place.{Place}
 use Rattle.idl_token.specs.declared.Token.{Token}
 use Rattle.idl_token.specs.declared.LexFault.{LexFault}

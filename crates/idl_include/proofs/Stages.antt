@@ -3,8 +3,8 @@ use Rattle.std.proofs.Common.{◌≡◌, ◌≤◌, ◌+◌, ℕ, false, List, m
 use Rattle.std.specs.Prelude.{⊤}
 use Rattle.std.proofs.lemmas.Bool.{false≢true}
 use Rattle.std.proofs.Math.Nat.{min-le_left, min-le_right, le-min}
-use Rattle.outside.specs.Files.{File}
-use Rattle.outside.specs.Cause.{Rose}
+use Rattle.streams.specs.Files.{File}
+use Rattle.streams.specs.Cause.{Rose}
 use Rattle.idl_token.specs.declared.Place.{Place}
 use Rattle.idl_include.specs.Readings.{LoadFlawKind}
 use Rattle.idl_include.specs.Program.{Program}

@@ -1,9 +1,9 @@
 -- What loading a program answers, beside what it comes to.
 use Rattle.std.specs.Prelude.{◌≡◌, ℕ, Bool, true, false, List, [], ◌∷◌, Option, Some, None, MatchOption, Result, Ok, Err, ⊤}
 use Rattle.std.specs.Str.{bytes_eq}
-use Rattle.outside.specs.Files.{File, OnTold, content_of, fits}
-use Rattle.outside.specs.declared.files.FileFail.{FileFail}
-use Rattle.outside.specs.declared.files.FileFail.TheVariants as fails
+use Rattle.streams.specs.Files.{File, OnTold, content_of, fits}
+use Rattle.streams.specs.declared.files.FileFail.{FileFail}
+use Rattle.streams.specs.declared.files.FileFail.TheVariants as fails
 use Rattle.idl_token.specs.declared.Place.{Place}
 use Rattle.idl_token.specs.Limits.{longest_idl_text}
 use Rattle.idl_token.specs.declared.LexKind.TheVariants as lex

@@ -1,6 +1,6 @@
 -- What a file of the interface language is read as: the tree of its document, or why there is none.
 use Rattle.std.specs.Prelude.{◌≡◌, ℕ, Bool, true, false, nat_le, List, length, Option, Some, None}
-use Rattle.outside.specs.Files.{File, content_of}
+use Rattle.streams.specs.Files.{File, content_of}
 use Rattle.idl_token.specs.declared.Place.{Place}
 use Rattle.idl_token.specs.declared.Token.{Token}
 use Rattle.idl_token.specs.declared.LexKind.{LexKind}

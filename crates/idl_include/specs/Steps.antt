@@ -2,8 +2,8 @@
 use Rattle.std.specs.Prelude.{◌≡◌, ◌≤◌, ℕ, true, false, List, length, Option, Result, MatchResult, ⊤}
 use Rattle.std.specs.Str.{bytes_eq, is_utf8}
 use Rattle.std.specs.List.{list_any}
-use Rattle.outside.specs.Files.{File}
-use Rattle.outside.specs.Cause.{Rose}
+use Rattle.streams.specs.Files.{File}
+use Rattle.streams.specs.Cause.{Rose}
 use Rattle.idl_parser.specs.Unplaced.{nowhere}
 use Rattle.idl_include.specs.Written.{Written}
 use Rattle.idl_include.specs.FileNames.{included_name}

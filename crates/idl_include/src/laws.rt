@@ -1,7 +1,7 @@
 //! What holds of the loading of a program.
 
 ghost use Rattle.std.specs.Prelude.{◌≡◌, ℕ, List};
-ghost use Rattle.outside.specs.Files.{File};
+ghost use Rattle.streams.specs.Files.{File};
 ghost use Rattle.idl_parser.specs.Trees.{document_node};
 ghost use Rattle.idl_include.specs.Decoded.{declarations_of, includes_of};
 ghost use Rattle.idl_include.specs.DeclaredIn.{definitions_in, includes_of_document};

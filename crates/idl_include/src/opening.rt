@@ -15,7 +15,7 @@ use crate::sources::IdlFile;
 use idl_parser::{Document, Include};
 use idl_token::Place;
 use lists::ByteText;
-use outside::Files;
+use streams::Files;
 use std::alloc::{AllocError, Global};
 
 /// How many files a program has at most.

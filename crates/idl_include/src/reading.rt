@@ -1,7 +1,7 @@
 //! One file: its bytes, its tokens, its document.
 
 ghost use Rattle.std.specs.Prelude.{◌≡◌, ◌≢◌, ◌≤◌, ℕ, List, true, false, length, IfOk, IfErr, OnOk};
-ghost use Rattle.outside.specs.Cause.{Rose};
+ghost use Rattle.streams.specs.Cause.{Rose};
 ghost use Rattle.idl_token.specs.Limits.{longest_idl_text};
 ghost use Rattle.idl_token.specs.Tokens.{AreTokensOf, IsFirstLexFault};
 ghost use Rattle.idl_parser.specs.Faults.{IsFaultOf};
@@ -13,7 +13,7 @@ use crate::faults::{LoadKind, LoadStop, NOWHERE, stop_at};
 use crate::laws::each_file_is_read_as_one_thing;
 use idl_parser::{Document, ParseFault, ParseKind, parse};
 use idl_token::{LONGEST_IDL_TEXT, LexFault, LexKind, Token, tokens};
-use outside::{FileFail, Files};
+use streams::{FileFail, Files};
 use std::alloc::Global;
 
 /// The document of the file of this name.

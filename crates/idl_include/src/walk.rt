@@ -1,7 +1,7 @@
 //! The walk over files, depth first: each file is begun once, and each of its includes is followed in order.
 
 ghost use Rattle.std.specs.Prelude.{◌≡◌, ◌<◌, ◌≤◌, ◌∷◌, [], ℕ, List, suc, true, false, length, IfOk, IfErr, OnOk, MatchResult};
-ghost use Rattle.outside.specs.Cause.{Rose};
+ghost use Rattle.streams.specs.Cause.{Rose};
 ghost use Rattle.idl_include.specs.Readings.{FileReading};
 ghost use Rattle.idl_include.specs.Loading.{program_of};
 ghost use Rattle.idl_include.specs.SourcesOf.{AreBegun, AreFiles, sources_in};
@@ -16,7 +16,7 @@ use crate::meanings::{IncludeMeaning, include_meaning};
 use crate::opening::{MAX_FILES, WantedFile, begin_file};
 use crate::sources::{IdlFile, Sources};
 use lists::ByteText;
-use outside::Files;
+use streams::Files;
 use std::alloc::{AllocError, Global};
 use std::collections::VecDeque;
 

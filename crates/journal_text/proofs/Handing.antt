@@ -2,9 +2,9 @@
 use Rattle.std.proofs.Common.{◌≡◌, ℕ, List, ◌++◌, codes, Option, Result, Ok, Err, refl, sym, ap, ◌∙◌, append_assoc, append-nil}
 use Rattle.std.specs.Prelude.{MatchResult}
 use Rattle.std.specs.Result.{IsErr}
-use Rattle.outside.specs.Cause.{HasCause}
-use Rattle.outside.specs.Content.{told_more}
-use Rattle.outside.specs.Taken.{IsTakenInPart}
+use Rattle.streams.specs.Cause.{HasCause}
+use Rattle.streams.specs.Content.{told_more}
+use Rattle.streams.specs.Taken.{IsTakenInPart}
 use Rattle.value_text.specs.Handing.{BreaksOff, HandsText}
 
 -- bytes that are handed whole or in part

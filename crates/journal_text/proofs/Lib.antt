@@ -8,6 +8,5 @@ pub mod Pending
 pub mod Segmented
 pub mod Sent
 pub mod Spooling
-mod Walks
 pub mod Written
 pub mod OneConnection

@@ -1,7 +1,7 @@
 -- How lines that stand in a buffer make up the bytes of a sink.
 use Rattle.std.proofs.Common.{◌≡◌, ℕ, ◌+◌, ◌-◌, ◌^◌, Bool, true, false, List, [], ◌∷◌, ◌++◌, length, min, Option, sym, ap, subst, ◌∙◌, arith, append-nil, length-append}
-use Rattle.outside.specs.Content.{told_more}
-use Rattle.outside.specs.Taken.{IsTakenInPart}
+use Rattle.streams.specs.Content.{told_more}
+use Rattle.streams.specs.Taken.{IsTakenInPart}
 use Rattle.value_text.specs.Handing.{HandsOver, BreaksOff}
 use Rattle.host_model.specs.Report.{journal_lines}
 use Rattle.call_rules.specs.Entries.{CallEntry}

@@ -10,11 +10,11 @@ use Rattle.host_model.proofs.key.Key.TheSendSync.{the_field_send as key_send}
 use Rattle.call_rules.specs.contracts.call.Answer as Answer
 use Rattle.call_rules.specs.contracts.call.Call as Call
 use Rattle.call_rules.specs.contracts.call.Entry as Entry
-use Rattle.outside.specs.declared.streams.Sink.{Ghosts}
+use Rattle.streams.specs.declared.streams.Sink.{Ghosts}
 use Rattle.journal_text.specs.contracts.segment_journal.SegmentJournal as SegmentJournal
 use Rattle.journal_text.specs.contracts.sink_journal.SinkJournal as SinkJournal
 use Rattle.journal_text.specs.contracts.spool_journal.SpoolJournal as SpoolJournal
-use Rattle.journal_text.proofs.appended.Appended.TheSendSync.{the_send as appended_send}
+use Rattle.lists.proofs.appended.Appended.TheSendSync.{the_field_send as appended_send}
 use Rattle.journal_text.proofs.buffered.Buffered.TheSendSync.{the_field_send as buffered_send}
 
 value_send : IsSend (Value.the_field).row

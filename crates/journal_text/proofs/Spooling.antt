@@ -4,10 +4,10 @@ use Rattle.std.specs.Prelude.{MatchResult}
 use Rattle.std.specs.Result.{IsErr}
 use Rattle.std.proofs.Math.Seq.{take-add}
 use Rattle.std.proofs.lemmas.Grind.{flat_map-append}
-use Rattle.outside.specs.Cause.{HasCause}
-use Rattle.outside.specs.Content.{told_more}
-use Rattle.outside.specs.Taken.{IsTakenInPart}
-use Rattle.outside.proofs.Causes.{cause_on}
+use Rattle.streams.specs.Cause.{HasCause}
+use Rattle.streams.specs.Content.{told_more}
+use Rattle.streams.specs.Taken.{IsTakenInPart}
+use Rattle.streams.proofs.Causes.{cause_on}
 use Rattle.text_out.specs.Line.{line_of}
 use Rattle.value_text.specs.Handing.{HandsOver, BreaksOff}
 use Rattle.host_model.specs.Report.{journal_lines}

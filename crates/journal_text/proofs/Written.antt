@@ -4,9 +4,9 @@ use Rattle.std.specs.Prelude.{MatchResult}
 use Rattle.std.specs.List.{flat_map}
 use Rattle.std.specs.Result.{IsErr}
 use Rattle.std.proofs.lemmas.Grind.{flat_map-append}
-use Rattle.outside.specs.Content.{told_more}
-use Rattle.outside.specs.Taken.{IsTakenBut, IsTakenInPart}
-use Rattle.outside.proofs.Taking.{none_taken, all_taken, all_told, taken_on}
+use Rattle.streams.specs.Content.{told_more}
+use Rattle.streams.specs.Taken.{IsTakenBut, IsTakenInPart}
+use Rattle.streams.proofs.Taking.{none_taken, all_taken, all_told, taken_on}
 use Rattle.value_text.specs.Handing.{HandsOver, BreaksOff}
 use Rattle.text_out.specs.Line.{line_of}
 use Rattle.call_rules.specs.Entries.{CallEntry}

@@ -1,7 +1,7 @@
 -- What the two kinds of journal stand for.
 use Rattle.std.specs.Prelude.{◌≡◌, ℕ, ◌-◌, ◌^◌, Bool, false, List, [], length, min, Option, refl}
 use Rattle.std.specs.Coded.{Coded, code_by, coded×, coded_ℕ, coded_bool, coded_list}
-use Rattle.outside.specs.Content.{told_more}
+use Rattle.streams.specs.Content.{told_more}
 use Rattle.host_model.specs.Report.{journal_lines}
 use Rattle.call_rules.specs.Entries.{CallEntry, call_entry_code}
 use Rattle.journal_text.specs.EntryText.{entry_text}

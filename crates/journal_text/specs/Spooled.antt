@@ -1,7 +1,7 @@
 -- What a journal whose lines stand in a buffer before a sink takes them stands for.
 use Rattle.std.specs.Prelude.{◌≡◌, ℕ, ◌≤◌, Bool, true, false, List, ◌++◌, length, Option, refl}
 use Rattle.std.specs.Coded.{Coded, code_by, coded×, coded_ℕ, coded_bool, coded_list}
-use Rattle.outside.specs.Content.{told_more}
+use Rattle.streams.specs.Content.{told_more}
 use Rattle.host_model.specs.Report.{journal_lines}
 use Rattle.call_rules.specs.Entries.{CallEntry, call_entry_code}
 use Rattle.journal_text.specs.EntryText.{entry_text}

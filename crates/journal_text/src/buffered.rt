@@ -1,15 +1,15 @@
 //! A buffer in front of a sink.
 
 ghost use Rattle.std.specs.Prelude.{◌≡◌, ◌+◌, ◌<◌, ◌≤◌, ℕ, [], ◌++◌, length, drop, OnOk, IfOk, IfErr, MatchResult, vec_len, vec_capacity};
-ghost use Rattle.outside.specs.Cause.{HasCause};
-ghost use Rattle.outside.specs.Content.{HasWritten, told_more};
-ghost use Rattle.outside.specs.Taken.{IsTakenInPart};
+ghost use Rattle.streams.specs.Cause.{HasCause};
+ghost use Rattle.streams.specs.Content.{HasWritten, told_more};
+ghost use Rattle.streams.specs.Taken.{IsTakenInPart};
 ghost use Rattle.journal_text.specs.EntryText.{call_line};
 ghost use Rattle.journal_text.specs.JournalStates.{IsCutShort};
 
 use crate::spelling::spell_entry;
 use call_rules::Entry;
-use outside::{Failed, Sink, write_all};
+use streams::{Failed, Sink, write_all};
 use std::alloc::Global;
 
 /// A sink and bytes on their way to it.
@@ -100,7 +100,7 @@ impl<K: Sink> Buffered<K> {
 }
 
 impl<K: Sink> Sink for Buffered<K> {
-    ghost use Rattle.outside.specs.Content.{told_more};
+    ghost use Rattle.streams.specs.Content.{told_more};
 
     ghost taken = { λ b. told_more (K.taken b.sink) b.held.items };
 

@@ -3,7 +3,7 @@
 use crate::segment_journal::SegmentJournal;
 use crate::sink_journal::SinkJournal;
 use crate::spool_journal::SpoolJournal;
-use outside::Sink;
+use streams::Sink;
 
 fn may_be_sent<T: Send>(_value: &T) {}
 

@@ -21,7 +21,6 @@
 //! Not here: what makes a journal a legal history (`host_model`), and the other lines of a report.
 #![tactic(auto)]
 
-mod appended;
 mod buffered;
 pub mod crossing;
 mod front;

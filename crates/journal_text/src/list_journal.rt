@@ -1,11 +1,11 @@
 //! A journal in memory.
 
 ghost use Rattle.std.specs.Prelude.{◌≡◌, ◌≤◌, ◌∷◌, [], ◌++◌, OnOk, IsOk};
-ghost use Rattle.outside.specs.Cause.{HasCause};
+ghost use Rattle.streams.specs.Cause.{HasCause};
 ghost use Rattle.call_rules.specs.PlainCalls.{IsPlainCall, IsPlainAnswer};
 
 use call_rules::{Entry, Journal};
-use outside::Failed;
+use streams::Failed;
 use std::alloc::{AllocError, Global};
 use std::marker::Model;
 

@@ -4,8 +4,8 @@ ghost use Rattle.std.specs.Prelude.{◌≡◌, ◌≢◌, ◌%◌, ◌<◌, ◌�
 ghost use Rattle.std.specs.List.{AllByRecursion};
 ghost use Rattle.std.specs.VecDeque.{deque_len, deque_capacity};
 ghost use Rattle.std.specs.Option.{option_copied};
-ghost use Rattle.outside.specs.Cause.{HasCause};
-ghost use Rattle.outside.specs.Content.{told_more};
+ghost use Rattle.streams.specs.Cause.{HasCause};
+ghost use Rattle.streams.specs.Content.{told_more};
 ghost use Rattle.host_model.specs.Report.{journal_lines};
 ghost use Rattle.value_text.specs.Handing.{HandsText};
 ghost use Rattle.call_rules.specs.PlainCalls.{IsPlainCall, IsPlainAnswer};
@@ -14,7 +14,7 @@ ghost use Rattle.journal_text.specs.Segments.{chained, segment_room, IsFull, IsS
 
 use crate::spelling::spell_entries;
 use call_rules::{Entry, Journal};
-use outside::{Failed, Sink};
+use streams::{Failed, Sink};
 use std::alloc::{AllocError, Global};
 use std::collections::VecDeque;
 use std::marker::Model;

@@ -1,16 +1,16 @@
 //! A journal that a sink takes, line by line.
 
 ghost use Rattle.std.specs.Prelude.{◌≡◌, ◌∷◌, [], ◌++◌, false, true, IfOk, IfErr, IsOk, MatchResult};
-ghost use Rattle.outside.specs.Cause.{HasCause};
-ghost use Rattle.outside.specs.Content.{told_more};
+ghost use Rattle.streams.specs.Cause.{HasCause};
+ghost use Rattle.streams.specs.Content.{told_more};
 ghost use Rattle.call_rules.specs.PlainCalls.{IsPlainCall, IsPlainAnswer};
 ghost use Rattle.journal_text.specs.EntryText.{call_line};
 ghost use Rattle.journal_text.specs.JournalStates.{appended_count, HasLines, IsCutShort};
 
-use crate::appended::Appended;
+use lists::Appended;
 use crate::buffered::Buffered;
 use call_rules::{Entry, Journal};
-use outside::{Failed, Sink};
+use streams::{Failed, Sink};
 use std::alloc::{AllocError, Global};
 use std::marker::Model;
 use std::snapshot::Snapshot;
@@ -39,9 +39,9 @@ impl<K: Sink> Model for SinkJournal<K> {
 
     ghost coded = { written_entries_code K.code };
 
-    ghost view = { λ j. record { sink = j.out.sink; opening = j.opening.value; entries = j.appended.items; torn = j.torn } };
+    ghost view = { λ j. record { sink = j.out.sink; opening = j.opening.value; entries = j.appended; torn = j.torn } };
 
-    ghost invariant = { λ j. IsWritten (K.taken j.opening.value) (K.taken j.out.sink) j.out.held.items j.appended.items j.count j.torn };
+    ghost invariant = { λ j. IsWritten (K.taken j.opening.value) (K.taken j.out.sink) j.out.held.items j.appended j.count j.torn };
 }
 
 /// There was no memory. The sink comes back.
@@ -122,7 +122,7 @@ impl<K: Sink> Journal for SinkJournal<K> {
             self.torn = true;
             return Err(fault);
         }
-        self.appended = self.appended.and(&entry);
+        self.appended.push(&entry);
         self.count = self.count.saturating_add(1);
         Ok(())
     }

@@ -12,7 +12,7 @@ ghost use Rattle.journal_text.specs.EntryText.{next_word, front_text, answered_t
 use crate::front::{MOST_FRONT, put_front};
 use call_rules::{Answer, Call, Entry, Key};
 use itoa::Buffer;
-use outside::{Failed, Sink};
+use streams::{Failed, Sink};
 use thrift_value::Value;
 use value_text::{hand_over, spell_value};
 

@@ -1,21 +1,21 @@
 //! A journal whose lines stand in a buffer before a sink takes them.
 
 ghost use Rattle.std.specs.Prelude.{◌≡◌, ◌∷◌, [], ◌++◌, false, true, IfOk, IfErr, IsOk, OnErr, MatchResult};
-ghost use Rattle.outside.specs.Cause.{HasCause};
-ghost use Rattle.outside.specs.Content.{told_more};
-ghost use Rattle.outside.specs.Taken.{IsTakenInPart};
+ghost use Rattle.streams.specs.Cause.{HasCause};
+ghost use Rattle.streams.specs.Content.{told_more};
+ghost use Rattle.streams.specs.Taken.{IsTakenInPart};
 ghost use Rattle.host_model.specs.Report.{journal_lines};
 ghost use Rattle.call_rules.specs.PlainCalls.{IsPlainCall, IsPlainAnswer};
 ghost use Rattle.journal_text.specs.EntryText.{entry_text};
 ghost use Rattle.journal_text.specs.JournalStates.{appended_count, IsCutShort};
 ghost use Rattle.journal_text.specs.Spooled.{HasLinesWith, HasSomeLines};
 
-use crate::appended::Appended;
+use lists::Appended;
 use crate::buffered::Buffered;
 use crate::sink_journal::NoJournal;
 use crate::spelling::spell_entry;
 use call_rules::{Entry, Journal};
-use outside::{Failed, Sink};
+use streams::{Failed, Sink};
 use std::alloc::{AllocError, Global};
 use std::marker::Model;
 use std::snapshot::Snapshot;
@@ -44,9 +44,9 @@ impl<K: Sink> Model for SpoolJournal<K> {
 
     ghost coded = { spooled_entries_code K.code };
 
-    ghost view = { λ j. record { sink = j.out.sink; opening = j.opening.value; held = j.out.held.items; entries = j.appended.items; failed = j.failed } };
+    ghost view = { λ j. record { sink = j.out.sink; opening = j.opening.value; held = j.out.held.items; entries = j.appended; failed = j.failed } };
 
-    ghost invariant = { λ j. IsSpooled (K.taken j.opening.value) (K.taken j.out.sink) j.out.held.items j.appended.items j.count j.failed };
+    ghost invariant = { λ j. IsSpooled (K.taken j.opening.value) (K.taken j.out.sink) j.out.held.items j.appended j.count j.failed };
 }
 
 impl<K: Sink> SpoolJournal<K> {
@@ -149,7 +149,7 @@ impl<K: Sink> Journal for SpoolJournal<K> {
             self.failed = true;
             return Err(fault);
         }
-        self.appended = self.appended.and(&entry);
+        self.appended.push(&entry);
         self.count = self.count.saturating_add(1);
         Ok(())
     }

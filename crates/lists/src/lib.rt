@@ -1,4 +1,4 @@
-//! Small lists over vectors, each in a contract the list of its items, and texts as their bytes.
+//! Small lists over vectors, each in a contract the list of its items, and texts as their bytes; and lists that only proofs read.
 //!
 //! ```
 //! let text = ByteText::new(b"add".to_vec(alloc)?);
@@ -8,8 +8,12 @@
 //! ```
 #![tactic(auto)]
 
+mod appended;
 mod byte_text;
 mod listed;
+mod noted_bytes;
 
+pub use appended::Appended;
 pub use byte_text::ByteText;
 pub use listed::Listed;
+pub use noted_bytes::NotedBytes;

@@ -1,10 +1,10 @@
 -- A connection has ended, and is closed: the loop goes on.
 use Rattle.std.proofs.Common.{◌≡◌, ◌≢◌, ℕ, ◌+◌, ◌≤◌, Option, None, Some, List, [], ◌∷◌, ◌++◌, length, refl, sym, ap, ◌∙◌, subst, append-nil, arith}
 use Rattle.std.proofs.lemmas.Option.{none-some, same_Some}
-use Rattle.outside.specs.Cause.{Rose}
-use Rattle.outside.specs.Content.{told_before, IsSpent}
-use Rattle.outside.specs.declared.marks.Mark.{Mark}
-use Rattle.outside.specs.declared.marks.Mark.TheVariants.{Ended, ReadFailed, Closed}
+use Rattle.streams.specs.Cause.{Rose}
+use Rattle.streams.specs.Content.{told_before, IsSpent}
+use Rattle.streams.specs.declared.marks.Mark.{Mark}
+use Rattle.streams.specs.declared.marks.Mark.TheVariants.{Ended, ReadFailed, Closed}
 use Rattle.outside.specs.declared.answers.Taken.{Taken}
 use Rattle.outside.specs.declared.answers.Taken.TheVariants.{Bytes, End as EndTaken, NotYet, Failed, NoMemory as NoRoom}
 use Rattle.outside.specs.Faults.{CountsItsFault, length_lent}

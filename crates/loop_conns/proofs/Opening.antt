@@ -3,8 +3,8 @@ use Rattle.std.proofs.Common.{◌≡◌, ◌≢◌, ℕ, suc, ◌+◌, ◌<◌, 
 use Rattle.std.proofs.lemmas.Bool.{cases_eq, cases_lt}
 use Rattle.std.proofs.lemmas.Option.{none-some}
 use Rattle.std.proofs.lemmas.List.{length_push, get_or_push, get_or_append_left}
-use Rattle.outside.specs.declared.marks.Mark.TheVariants.{Opened}
-use Rattle.outside.specs.Told.{told_with}
+use Rattle.streams.specs.declared.marks.Mark.TheVariants.{Opened}
+use Rattle.streams.specs.Told.{told_with}
 use Rattle.outside.specs.LinksState.{LinksState}
 use Rattle.host_model.specs.declared.cause.EndCause.{EndCause}
 use Rattle.host_model.specs.declared.cause.EndCause.TheVariants.{Stopped}

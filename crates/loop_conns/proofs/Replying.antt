@@ -4,8 +4,8 @@ use Rattle.std.proofs.lemmas.Bool.{cases_eq}
 use Rattle.std.proofs.lemmas.Option.{none-some}
 use Rattle.std.proofs.lemmas.List.{length-drop}
 use Rattle.std.proofs.Math.ListN.{drop_of_length-le}
-use Rattle.outside.specs.Cause.{Rose}
-use Rattle.outside.specs.declared.marks.Mark.TheVariants.{Wrote, WriteFailed}
+use Rattle.streams.specs.Cause.{Rose}
+use Rattle.streams.specs.declared.marks.Mark.TheVariants.{Wrote, WriteFailed}
 use Rattle.outside.specs.LinksState.{LinksState}
 use Rattle.outside.specs.Closing.{Closes}
 use Rattle.host_model.specs.declared.cause.EndCause.{EndCause}

@@ -1,9 +1,9 @@
 -- An outcome was collected: its connection writes a reply, reads on, or has ended, and the loop goes on.
 use Rattle.std.proofs.Common.{◌≡◌, ◌≢◌, ℕ, suc, ◌+◌, ◌<◌, ◌≤◌, Option, None, Some, IsSome, List, [], ◌∷◌, ◌++◌, length, slice_index_or, slice_set, refl, sym, ap, ◌∙◌, subst, arith}
 use Rattle.std.proofs.lemmas.Option.{none-some, same_Some}
-use Rattle.outside.specs.declared.outcomes.Settled.{Settled}
-use Rattle.outside.specs.declared.outcomes.Settled.TheVariants.{Reply, Nothing, Close, NoMemory as NoRoom}
-use Rattle.outside.specs.declared.marks.Mark.TheVariants.{Closed}
+use Rattle.streams.specs.declared.outcomes.Settled.{Settled}
+use Rattle.streams.specs.declared.outcomes.Settled.TheVariants.{Reply, Nothing, Close, NoMemory as NoRoom}
+use Rattle.streams.specs.declared.marks.Mark.TheVariants.{Closed}
 use Rattle.outside.specs.LinksState.{LinksState}
 use Rattle.outside.specs.Closing.{Closes}
 use Rattle.host_model.specs.declared.key.Key.{Key}

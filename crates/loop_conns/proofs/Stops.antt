@@ -4,7 +4,7 @@ use Rattle.std.proofs.lemmas.Bool.{cases_eq, cases_lt}
 use Rattle.std.proofs.lemmas.Option.{slice_get-get_or}
 use Rattle.std.proofs.lemmas.List.{get_or_past}
 use Rattle.outside.specs.LinksState.{LinksState}
-use Rattle.outside.specs.declared.marks.Mark.TheVariants.{Closed}
+use Rattle.streams.specs.declared.marks.Mark.TheVariants.{Closed}
 use Rattle.outside.specs.Closing.{Closes}
 use Rattle.host_model.specs.declared.cause.EndCause.TheVariants.{Stopped}
 use Rattle.machine_model.specs.Loop.{Loop, with_cause, changed, gives_up}

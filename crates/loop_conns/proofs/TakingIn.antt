@@ -2,9 +2,9 @@
 use Rattle.std.proofs.Common.{◌≡◌, ◌≢◌, ℕ, ℤ, ◌+◌, ◌-◌, ◌<◌, ◌≤◌, ◌^◌, None, Some, IsSome, List, [], ◌∷◌, ◌++◌, length, true, min, slice_index_or, refl, sym, ap, ◌∙◌, subst, append-nil, length-append, arith}
 use Rattle.std.specs.Int.{w32, to_be_bytes}
 use Rattle.std.proofs.lemmas.Option.{none-some, same_Some}
-use Rattle.outside.specs.declared.marks.Mark.{Mark}
-use Rattle.outside.specs.declared.marks.Mark.TheVariants.{Read, Closed}
-use Rattle.outside.specs.Told.{told_with}
+use Rattle.streams.specs.declared.marks.Mark.{Mark}
+use Rattle.streams.specs.declared.marks.Mark.TheVariants.{Read, Closed}
+use Rattle.streams.specs.Told.{told_with}
 use Rattle.outside.specs.LinksState.{LinksState, ChangesOnly}
 use Rattle.outside.specs.Closing.{Closes}
 use Rattle.host_model.specs.declared.cause.EndCause.{EndCause}

@@ -2,10 +2,10 @@
 use Rattle.std.proofs.Common.{◌≡◌, ◌≢◌, ℕ, ◌<◌, ◌≤◌, ◌⊎◌, Option, None, Some, IsSome, List, [], ◌++◌, length, slice_index_or, slice_set, unwrap_or, refl, sym, ap, ◌∙◌, subst, inl, inr, append-nil, append_assoc, arith}
 use Rattle.std.proofs.lemmas.Bool.{cases_eq}
 use Rattle.std.proofs.lemmas.List.{get_or-set_same, get_or-set_other, length-set}
-use Rattle.outside.specs.Cause.{Rose}
-use Rattle.outside.specs.Content.{IsSpent}
-use Rattle.outside.specs.declared.marks.Mark.{Mark}
-use Rattle.outside.specs.Told.{told_with}
+use Rattle.streams.specs.Cause.{Rose}
+use Rattle.streams.specs.Content.{IsSpent}
+use Rattle.streams.specs.declared.marks.Mark.{Mark}
+use Rattle.streams.specs.Told.{told_with}
 use Rattle.outside.specs.LinksState.{LinksState}
 use Rattle.host_model.specs.declared.cause.EndCause.{EndCause}
 use Rattle.host_model.specs.declared.cause.EndCause.TheVariants.{End, Cut, SizeFault, Envelope, ReadFault, WriteFault, NoMemory, Stopped}

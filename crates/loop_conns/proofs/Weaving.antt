@@ -1,8 +1,8 @@
 -- One item more in the loop's own order: what was woven so far goes on with it.
 use Rattle.std.proofs.Common.{◌≡◌, ℕ, ◌<◌, ◌≤◌, ◌^◌, Option, None, Some, IfSome, List, [], ◌∷◌, ◌++◌, refl, sym, ap, ◌∙◌, subst, append-nil, append_assoc}
 use Rattle.std.specs.List.{AllByRecursion}
-use Rattle.outside.specs.declared.answers.RestPlace.{RestPlace}
-use Rattle.outside.specs.Told.{told_with}
+use Rattle.streams.specs.declared.rest_place.RestPlace.{RestPlace}
+use Rattle.streams.specs.Told.{told_with}
 use Rattle.outside.specs.LinksState.{LinksState}
 use Rattle.machine_model.specs.Loop.{Loop}
 use Rattle.machine_model.specs.AtFronts.{all_begun, KeepsWithin}

@@ -1,7 +1,7 @@
 -- What it leaves of a loop's connections, and of its links, that one of them has ended or changed.
 use Rattle.std.specs.Prelude.{◌≡◌, ℕ, ◌<◌, ◌≤◌, Option, None, IsSome, List, length, slice_set}
-use Rattle.outside.specs.declared.marks.Mark.{Mark}
-use Rattle.outside.specs.Told.{told_with}
+use Rattle.streams.specs.declared.marks.Mark.{Mark}
+use Rattle.streams.specs.Told.{told_with}
 use Rattle.outside.specs.LinksState.{LinksState, ChangesOnly}
 use Rattle.host_model.specs.declared.cause.EndCause.{EndCause}
 use Rattle.conn_table.specs.Slots.{slot_in}

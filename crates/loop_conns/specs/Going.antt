@@ -1,10 +1,10 @@
 -- What each call of the loop's connections keeps, however the links came in and whatever the loop has asked.
 use Rattle.std.specs.Prelude.{◌≡◌, ◌≢◌, ℕ, ◌<◌, ◌≤◌, ◌+◌, true, List, [], ◌∷◌, ◌++◌, length, IsSome, slice_index_or}
-use Rattle.outside.specs.declared.outcomes.Settled.{Settled}
-use Rattle.outside.specs.declared.outcomes.Settled.TheVariants.{Reply, Nothing, Close, NoMemory}
+use Rattle.streams.specs.declared.outcomes.Settled.{Settled}
+use Rattle.streams.specs.declared.outcomes.Settled.TheVariants.{Reply, Nothing, Close, NoMemory}
 use Rattle.std.specs.Vec.{vec_capacity}
 use Rattle.outside.specs.LinksState.{LinksState}
-use Rattle.outside.specs.declared.marks.Mark.TheVariants.{Read}
+use Rattle.streams.specs.declared.marks.Mark.TheVariants.{Read}
 use Rattle.host_model.specs.declared.key.Key.{Key}
 use Rattle.conn_state.specs.Phase.{wanted, left_to_write, IsHeld, IsReading, IsReady}
 use Rattle.conn_table.specs.Slots.{slot_in}

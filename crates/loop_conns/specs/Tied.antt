@@ -1,7 +1,7 @@
 -- What a loop keeps of its links' connections, tied to the machine's loop.
 use Rattle.std.specs.Prelude.{◌≡◌, ℕ, ◌^◌, ◌<◌, ◌≤◌, true, false, None, Some, IsSome, length, slice_index_or}
-use Rattle.outside.specs.Cause.{Rose}
-use Rattle.outside.specs.Content.{IsSpent}
+use Rattle.streams.specs.Cause.{Rose}
+use Rattle.streams.specs.Content.{IsSpent}
 use Rattle.outside.specs.LinksState.{LinksState}
 use Rattle.host_model.specs.declared.cause.EndCause.{EndCause}
 use Rattle.host_model.specs.declared.cause.EndCause.TheVariants.{End, Cut, SizeFault, Envelope, ReadFault, WriteFault, NoMemory, Stopped}

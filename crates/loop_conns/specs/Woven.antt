@@ -2,7 +2,7 @@
 use Rattle.std.specs.Prelude.{◌≡◌, ◌≢◌, ℕ, ◌+◌, ◌-◌, ◌<◌, ◌≤◌, true, min, nat_lt, ◌==◌, if◌then◌else◌, Option, None, Some, IfSome, List, [], ◌∷◌, ◌++◌, length, take}
 use Rattle.std.specs.List.{AllByRecursion}
 use Rattle.std.specs.Int.{w32, from_be_bytes}
-use Rattle.outside.specs.declared.answers.RestPlace.{RestPlace}
+use Rattle.streams.specs.declared.rest_place.RestPlace.{RestPlace}
 use Rattle.outside.specs.LinksState.{LinksState}
 use Rattle.host_model.specs.declared.cause.EndCause.{EndCause}
 use Rattle.host_model.specs.declared.cause.EndCause.TheVariants.{Stopped}

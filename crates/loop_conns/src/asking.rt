@@ -1,13 +1,14 @@
 //! How links are asked what is next.
 
 ghost use Rattle.std.specs.Prelude.{◌≡◌, ℕ, IsTrue, IsErr, MatchResult, Ok, None, ◌<◌, ◌≤◌, length};
-ghost use Rattle.outside.specs.Cause.{Rose};
+ghost use Rattle.streams.specs.Cause.{Rose};
 ghost use Rattle.outside.specs.declared.answers.Hint.TheVariants.{Over};
 ghost use Rattle.loop_conns.specs.Going.{AnyLoopIsRunning, AllKeepGoing, AllComeSoFar, HasNoRoom, HasPlace, IsAllOver};
 
 use crate::connections::{ConnStage, LoopConnections};
 use conn_state::EndCause;
-use outside::{Ask, Failed, Hint, Links};
+use outside::{Ask, Hint, Links};
+use streams::Failed;
 use std::sync::Wait;
 
 impl LoopConnections {

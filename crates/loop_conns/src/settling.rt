@@ -9,7 +9,8 @@ ghost use Rattle.loop_conns.specs.Going.{longest_payload, AnyLoopIsRunning, IsOp
 
 use crate::connections::{ConnStage, LoopConnections};
 use host_model::Key;
-use outside::{Links, Settled};
+use outside::Links;
+use streams::Settled;
 
 /// What was settled, where a reply with no bytes is none.
 fn with_some_reply(settled: Settled) -> Settled

@@ -5,10 +5,10 @@ use Rattle.std.proofs.lemmas.Int.{of_z-to_z, ints}
 use Rattle.std.proofs.Math.Facts.{sfits_to_z}
 use Rattle.std.proofs.lemmas.Bool.{or_cases, and_parts, eqb-true, ltb-true, leb-true, lt-ltb, true≢false, false≢true}
 use Rattle.std.proofs.lemmas.Option.{none-some, same_Some}
-use Rattle.outside.specs.declared.outcomes.Settled.{Settled}
-use Rattle.outside.specs.declared.outcomes.Settled.TheVariants.{NoMemory as Lack}
-use Rattle.outside.specs.declared.marks.Mark.{Mark}
-use Rattle.outside.specs.declared.marks.Mark.TheVariants.{Ended, Wrote, ReadFailed, WriteFailed, Closed}
+use Rattle.streams.specs.declared.outcomes.Settled.{Settled}
+use Rattle.streams.specs.declared.outcomes.Settled.TheVariants.{NoMemory as Lack}
+use Rattle.streams.specs.declared.marks.Mark.{Mark}
+use Rattle.streams.specs.declared.marks.Mark.TheVariants.{Ended, Wrote, ReadFailed, WriteFailed, Closed}
 use Rattle.host_model.specs.declared.key.Key.{Key}
 use Rattle.host_model.specs.declared.cause.EndCause.{EndCause}
 use Rattle.host_model.specs.declared.cause.EndCause.TheVariants.{NoMemory, Stopped, ReadFault, WriteFault}

@@ -1,7 +1,7 @@
 -- Facts about keys, and about lists of keys.
 use Rattle.std.proofs.Common.{◌≡◌, ℕ, suc, ◌+◌, ◌⊎◌, Bool, true, false, ◌||◌, ◌==◌, if◌then◌else◌, List, [], ◌∷◌, ◌++◌, map, length, refl, sym, ap, ◌∙◌, inl, inr, ⊎_elim, length-append, eq-eqb}
 use Rattle.std.proofs.lemmas.Bool.{false≢true, and_from, and_parts, or_left, or_right, or_cases, eqb-true, false_from_ne_true}
-use Rattle.outside.specs.declared.outcomes.Settled.{Settled}
+use Rattle.streams.specs.declared.outcomes.Settled.{Settled}
 use Rattle.host_model.specs.declared.key.Key.{Key}
 use Rattle.machine_model.specs.HallState.{key_of, is_same, Job, JobOutcome, HallState, has_key, without, keys_in}
 use Rattle.machine_model.specs.HallRule.{job_of, outcome_of}

@@ -5,7 +5,7 @@ use Rattle.std.specs.Int.{w32, to_be_bytes}
 use Rattle.std.proofs.lemmas.Bool.{cases_eq, cases_lt}
 use Rattle.std.proofs.lemmas.Option.{none-some, same_Some}
 use Rattle.std.proofs.lemmas.Grind.{flat_map-append}
-use Rattle.outside.specs.declared.marks.Mark.{Mark}
+use Rattle.streams.specs.declared.marks.Mark.{Mark}
 use Rattle.host_model.specs.declared.key.Key.{Key}
 use Rattle.host_model.specs.Frames.{Frames, frame}
 use Rattle.host_model.specs.Marks.{marks_of, input, output}
@@ -18,8 +18,8 @@ use Rattle.host_model.proofs.Lists.{all_push, all-append}
 use Rattle.host_model.proofs.Framing.{only_split, a_split}
 use Rattle.host_model.proofs.Replies.{sent_kept}
 use Rattle.host_model.proofs.Filters.{entries_same, entries_other, of_entry}
-use Rattle.outside.specs.declared.outcomes.Settled.{Settled}
-use Rattle.outside.specs.declared.outcomes.Settled.TheVariants.{Reply, Nothing, Close as Refused, NoMemory}
+use Rattle.streams.specs.declared.outcomes.Settled.{Settled}
+use Rattle.streams.specs.declared.outcomes.Settled.TheVariants.{Reply, Nothing, Close as Refused, NoMemory}
 use Rattle.machine_model.specs.HallState.{key_of, HallState}
 use Rattle.machine_model.specs.HallRule.{HallOperation, submit, take_job, apply, put, collect, close, HallAnswer, done, job, empty, is_closed, applied, no_memory, journal_fault, is_broken, outcome, entry_under, TakesEffect, ApplyGives, HallGives}
 use Rattle.machine_model.specs.Determined.{IsApply}

@@ -11,7 +11,7 @@ use Rattle.host_model.specs.Journal.{ServiceRules}
 use Rattle.host_model.specs.DeskRules.{DeskRules}
 use Rattle.std.proofs.lemmas.Option.{none-some, same_Some}
 use Rattle.machine_model.specs.declared.plain.conn_events.PlainLoop.{PlainLoop}
-use Rattle.outside.specs.declared.marks.Mark.{Mark}
+use Rattle.streams.specs.declared.marks.Mark.{Mark}
 use Rattle.std.proofs.Math.Seq.{drop-length, take-length}
 use Rattle.host_model.specs.declared.key.Key.{Key}
 use Rattle.host_model.proofs.Fronting.{next_of}

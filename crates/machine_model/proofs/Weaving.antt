@@ -3,7 +3,7 @@ use Rattle.std.proofs.Common.{◌≡◌, ◌≢◌, ℕ, ◌<◌, ◌≤◌, ◌
 use Rattle.std.specs.Int.{w32, to_be_bytes}
 use Rattle.std.proofs.lemmas.Bool.{and_parts, cases_eq, eqb-true, ltb-true}
 use Rattle.std.proofs.lemmas.Option.{none-some, same_Some}
-use Rattle.outside.specs.declared.outcomes.Settled.TheVariants.{Reply}
+use Rattle.streams.specs.declared.outcomes.Settled.TheVariants.{Reply}
 use Rattle.host_model.specs.declared.key.Key.{Key}
 use Rattle.host_model.specs.Frames.{IsPartial}
 use Rattle.host_model.specs.TinyDesk.{tiny_desk, counting}

@@ -1,8 +1,8 @@
 -- What the wrong steps of the examples contradict.
 use Rattle.std.proofs.Common.{◌≡◌, ℕ, false, ◌==◌, Option, None, Some, List, [], ◌∷◌, sym, ◌∙◌, eq-eqb}
 use Rattle.std.proofs.lemmas.Bool.{true≢false}
-use Rattle.outside.specs.declared.outcomes.Settled.{Settled}
-use Rattle.outside.specs.declared.outcomes.Settled.TheVariants.{Reply as Replied, Nothing, NoMemory}
+use Rattle.streams.specs.declared.outcomes.Settled.{Settled}
+use Rattle.streams.specs.declared.outcomes.Settled.TheVariants.{Reply as Replied, Nothing, NoMemory}
 use Rattle.host_model.specs.declared.key.Key.{Key}
 use Rattle.host_model.specs.DeskRules.{DeskDecision, Invoke}
 use Rattle.machine_model.specs.HallState.{Job, JobOutcome}

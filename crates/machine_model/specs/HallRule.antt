@@ -1,7 +1,7 @@
 -- The hall's rule: what each operation answers, and what it changes.
 use Rattle.std.specs.Prelude.{◌≡◌, ℕ, ◌≤◌, ◌⊎◌, true, false, List, [], ◌∷◌, ◌++◌}
-use Rattle.outside.specs.declared.outcomes.Settled.{Settled}
-use Rattle.outside.specs.Cause.{Rose}
+use Rattle.streams.specs.declared.outcomes.Settled.{Settled}
+use Rattle.streams.specs.Cause.{Rose}
 use Rattle.host_model.specs.declared.key.Key.{Key}
 use Rattle.host_model.specs.Journal.{JournalEntry, ServiceRules, after_call, IsAnswered}
 use Rattle.machine_model.specs.HallState.{Job, JobOutcome, HallState, without}

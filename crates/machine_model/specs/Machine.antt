@@ -1,6 +1,6 @@
 -- The machine: the whole host without threads, one event after another.
 use Rattle.std.specs.Prelude.{◌≡◌, ℕ, ◌<◌, ◌==◌, if◌then◌else◌, List, [], ◌∷◌, length, slice_get}
-use Rattle.outside.specs.declared.outcomes.Settled.{Settled}
+use Rattle.streams.specs.declared.outcomes.Settled.{Settled}
 use Rattle.host_model.specs.declared.key.Key.{Key}
 use Rattle.host_model.specs.declared.cause.EndCause.{EndCause}
 use Rattle.host_model.specs.Journal.{ServiceRules}

@@ -1,7 +1,7 @@
 -- Threads: from one history of the hall, and the loop's own order of what it did, the run of the machine that they make.
 use Rattle.std.specs.Prelude.{◌≡◌, ◌≢◌, ℕ, ◌==◌, if◌then◌else◌, List, [], ◌∷◌, ◌++◌, map}
 use Rattle.std.specs.List.{flat_map}
-use Rattle.outside.specs.declared.outcomes.Settled.{Settled}
+use Rattle.streams.specs.declared.outcomes.Settled.{Settled}
 use Rattle.host_model.specs.declared.key.Key.{Key}
 use Rattle.host_model.specs.Journal.{ServiceRules}
 use Rattle.host_model.specs.DeskRules.{DeskRules, Invoke}

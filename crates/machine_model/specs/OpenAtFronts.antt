@@ -1,7 +1,7 @@
 -- How many connections are open at a point of the tape: as many as were opened before it and not closed.
 use Rattle.std.specs.Prelude.{ℕ, ◌+◌, ◌≤◌, List, [], ◌∷◌}
-use Rattle.outside.specs.declared.marks.Mark.{Mark}
-use Rattle.outside.specs.declared.marks.Mark.TheVariants.{Opened, Closed}
+use Rattle.streams.specs.declared.marks.Mark.{Mark}
+use Rattle.streams.specs.declared.marks.Mark.TheVariants.{Opened, Closed}
 use Rattle.machine_model.specs.Loop.{most_connections}
 
 -- one, where a mark opens a connection

@@ -1,6 +1,6 @@
 -- The loop in mid-run: what it knows of its own calls alone, before anyone else's are known.
 use Rattle.std.specs.Prelude.{◌≡◌, ℕ, ◌==◌, if◌then◌else◌, List, ◌∷◌, ◌++◌}
-use Rattle.outside.specs.declared.outcomes.Settled.{Settled}
+use Rattle.streams.specs.declared.outcomes.Settled.{Settled}
 use Rattle.host_model.specs.declared.key.Key.{Key}
 use Rattle.call_history.specs.Calls.{seat_ask}
 use Rattle.machine_model.specs.HallRule.{HallOperation, submit, collect, HallAnswer, done, outcome}

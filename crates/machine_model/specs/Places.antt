@@ -1,7 +1,7 @@
 -- What holds of every cell that a run reaches: the last payload of each connection is at exactly one place.
 use Rattle.std.specs.Prelude.{◌≡◌, ℕ, suc, ◌<◌, ◌≤◌, ◌⊎◌, false, ◌==◌, Option, None, Some, List, [], ◌∷◌, ◌++◌, length, filter}
-use Rattle.outside.specs.declared.outcomes.Settled.{Settled}
-use Rattle.outside.specs.declared.outcomes.Settled.TheVariants.{NoMemory}
+use Rattle.streams.specs.declared.outcomes.Settled.{Settled}
+use Rattle.streams.specs.declared.outcomes.Settled.TheVariants.{NoMemory}
 use Rattle.host_model.specs.declared.key.Key.{Key}
 use Rattle.host_model.specs.declared.cause.EndCause.{EndCause}
 use Rattle.host_model.specs.Frames.{Frames}

@@ -1,10 +1,10 @@
 -- Small runs of a tiny desk, for examples.
 use Rattle.std.specs.Prelude.{◌≡◌, ℕ, zero, suc, false, Option, None, Some, List, [], ◌∷◌, map}
-use Rattle.outside.specs.declared.marks.Mark.{Mark}
+use Rattle.streams.specs.declared.marks.Mark.{Mark}
 use Rattle.host_model.specs.declared.cause.EndCause.{EndCause}
 use Rattle.host_model.specs.Journal.{JournalEntry}
 use Rattle.host_model.specs.TinyDesk.{tiny_desk, counting, size_of_one}
-use Rattle.outside.specs.declared.outcomes.Settled.TheVariants.{Nothing}
+use Rattle.streams.specs.declared.outcomes.Settled.TheVariants.{Nothing}
 use Rattle.machine_model.specs.HallState.{key_of, Job, JobOutcome, HallState}
 use Rattle.machine_model.specs.HallRule.{job_of, outcome_of}
 use Rattle.machine_model.specs.Loop.{LoopConn, Loop, opens, reads, ends, writes}

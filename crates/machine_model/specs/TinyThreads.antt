@@ -1,8 +1,8 @@
 -- A small history of the hall with the loop's own order, for an example: two connections and two workers.
 use Rattle.std.specs.Prelude.{ℕ, true, None, Some, List, [], ◌∷◌, ◌++◌, slice_get}
-use Rattle.outside.specs.declared.outcomes.Settled.TheVariants.{Reply}
-use Rattle.outside.specs.declared.marks.Mark.{Mark}
-use Rattle.outside.specs.declared.marks.Mark.TheVariants.{Opened, Read, Ended, Wrote, Closed}
+use Rattle.streams.specs.declared.outcomes.Settled.TheVariants.{Reply}
+use Rattle.streams.specs.declared.marks.Mark.{Mark}
+use Rattle.streams.specs.declared.marks.Mark.TheVariants.{Opened, Read, Ended, Wrote, Closed}
 use Rattle.host_model.specs.Journal.{after_call}
 use Rattle.host_model.specs.TinyDesk.{counting, size_of_one}
 use Rattle.machine_model.specs.HallState.{key_of, HallState, without}

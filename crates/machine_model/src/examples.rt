@@ -2,10 +2,10 @@
 //! that does nothing.
 
 ghost use Rattle.std.specs.Prelude.{◌≡◌, ℕ, true, false, None, Some, List, [], ◌∷◌, ◌++◌, map};
-ghost use Rattle.outside.specs.declared.outcomes.EnvelopeFault.TheVariants.{Short};
-ghost use Rattle.outside.specs.declared.outcomes.Settled.TheVariants.{Reply, Nothing, Close as Refused};
-ghost use Rattle.outside.specs.declared.marks.Mark.{Mark};
-ghost use Rattle.outside.specs.declared.marks.Mark.TheVariants.{Opened, Read, Ended, Wrote, WriteFailed, Closed};
+ghost use Rattle.streams.specs.declared.outcomes.EnvelopeFault.TheVariants.{Short};
+ghost use Rattle.streams.specs.declared.outcomes.Settled.TheVariants.{Reply, Nothing, Close as Refused};
+ghost use Rattle.streams.specs.declared.marks.Mark.{Mark};
+ghost use Rattle.streams.specs.declared.marks.Mark.TheVariants.{Opened, Read, Ended, Wrote, WriteFailed, Closed};
 ghost use Rattle.host_model.specs.declared.cause.EndCause.{EndCause};
 ghost use Rattle.host_model.specs.Journal.{JournalEntry};
 ghost use Rattle.host_model.specs.declared.cause.EndCause.TheVariants.{End, Envelope, WriteFault, Stopped};

@@ -2,9 +2,9 @@
 //! bound on the longest payload.
 
 ghost use Rattle.std.specs.Prelude.{◌≡◌, ◌≢◌, ◌↔◌, ℕ, suc, ◌+◌, ◌<◌, ◌≤◌, ◌^◌, ◌⊎◌, true, false, List, [], ◌∷◌, ◌++◌, length, map, Some};
-ghost use Rattle.outside.specs.declared.outcomes.Settled.{Settled};
-ghost use Rattle.outside.specs.declared.marks.Mark.{Mark};
-ghost use Rattle.outside.specs.Cause.{Rose};
+ghost use Rattle.streams.specs.declared.outcomes.Settled.{Settled};
+ghost use Rattle.streams.specs.declared.marks.Mark.{Mark};
+ghost use Rattle.streams.specs.Cause.{Rose};
 ghost use Rattle.host_model.specs.declared.cause.EndCause.{EndCause};
 ghost use Rattle.host_model.specs.declared.key.Key.{Key};
 ghost use Rattle.host_model.specs.Journal.{JournalEntry, ServiceRules};

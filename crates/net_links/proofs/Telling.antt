@@ -3,7 +3,7 @@ use Rattle.std.proofs.Common.{◌≡◌, ◌≢◌, ℕ, ◌<◌, ◌≤◌, ◌
 use Rattle.std.proofs.lemmas.Bool.{and_parts, not-true, false≢true, eqb-true, eq-eqb, ne_eqb, ltb-true, or_right}
 use Rattle.std.proofs.lemmas.List.Folds.{list_any-append}
 use Rattle.std.proofs.lemmas.Map.Views.{any-filter_same}
-use Rattle.outside.specs.Memory.{is_listed}
+use Rattle.streams.specs.Memory.{is_listed}
 use Rattle.outside.specs.declared.answers.Ask.{Ask}
 use Rattle.outside.specs.declared.answers.Hint.{Hint}
 use Rattle.outside.specs.declared.answers.Hint.TheVariants.{Opened, Readable, Writable, Woken}

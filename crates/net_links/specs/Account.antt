@@ -1,7 +1,7 @@
 -- What links over sockets tell: where they listen, which connections were opened, which of them are open, and their faults. Of bytes they tell nothing.
 use Rattle.std.specs.Prelude.{◌≡◌, ℕ, ◌+◌, nat_eq, nat_lt, Bool, true, false, not, ◌&&◌, List, [], ◌∷◌, ◌++◌, length, filter, count_by, Option, Some, None}
-use Rattle.outside.specs.Cause.{next_count}
-use Rattle.outside.specs.Memory.{is_listed}
+use Rattle.streams.specs.Cause.{next_count}
+use Rattle.streams.specs.Memory.{is_listed}
 use Rattle.outside.specs.LinksState.{Listening, LinksState}
 pub use Rattle.limits.specs.Limits.{most_connections}
 

@@ -1,7 +1,7 @@
 //! What the links tell of what has happened on them.
 
 ghost use Rattle.std.specs.Prelude.{◌≡◌, ◌^◌, ◌<◌, ◌≤◌, true, false, length, IfOk, OnOk, OnErr, if◌then◌else◌};
-ghost use Rattle.outside.specs.Memory.{is_listed};
+ghost use Rattle.streams.specs.Memory.{is_listed};
 ghost use Rattle.net_links.specs.Account.{NumbersNext, fresh_account, may_open, is_spent, after_opening, after_closing, after_failing, after_net_fault, after_over};
 
 use limits::MOST_CONNECTIONS;

@@ -1,7 +1,7 @@
 //! Links over the sockets of one poll.
 
 ghost use Rattle.std.specs.Prelude.{◌≡◌, true, IfOk};
-ghost use Rattle.outside.specs.Memory.{is_listed};
+ghost use Rattle.streams.specs.Memory.{is_listed};
 ghost use Rattle.net_links.specs.Account.{fresh_account, may_open};
 ghost use Rattle.net_links.specs.Settling.{SettlesFailure};
 ghost use Rattle.net_links.specs.Watching.{AcceptsOne};
@@ -9,7 +9,8 @@ ghost use Rattle.net_links.specs.Watching.{AcceptsOne};
 use crate::account::Account;
 use crate::signal::NetBell;
 use crate::sockets::Sockets;
-use outside::{Ask, Failed, Hint, Links, Taken};
+use outside::{Ask, Hint, Links, Taken};
+use streams::Failed;
 use std::alloc::{AllocError, Global};
 use std::io;
 use std::marker::Model;

@@ -3,7 +3,8 @@
 ghost use Rattle.std.specs.Prelude.{◌≡◌, ◌≤◌, ◌<◌, length, IfOk, refl};
 ghost use Rattle.net_links.specs.Piping.{fresh_net_pipe, net_pipe_told};
 
-use outside::{Failed, Pipe, Sink, Source};
+use outside::Pipe;
+use streams::{Failed, Sink, Source};
 use std::io::{self, ErrorKind, Read, Write};
 use std::marker::Model;
 

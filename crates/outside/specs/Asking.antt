@@ -1,13 +1,13 @@
 -- What links answer when they are asked what is next, and what that leaves.
 use Rattle.std.specs.Prelude.{◌≡◌, ◌≢◌, ℕ, suc, ◌<◌, ◌≤◌, ◌^◌, Bool, true, false, ◌||◌, List, [], ◌∷◌, ◌++◌, length, replicate, Option, Some, None, IfSome, Result, Ok, Err, IsErr, OnOk}
-use Rattle.outside.specs.Cause.{Rose}
-use Rattle.outside.specs.declared.marks.Mark.{Mark}
-use Rattle.outside.specs.declared.marks.Mark.TheVariants.{Opened as OpenedMark}
+use Rattle.streams.specs.Cause.{Rose}
+use Rattle.streams.specs.declared.marks.Mark.{Mark}
+use Rattle.streams.specs.declared.marks.Mark.TheVariants.{Opened as OpenedMark}
 use Rattle.outside.specs.declared.answers.Ask.{Ask}
 use Rattle.outside.specs.declared.answers.Hint.{Hint}
 use Rattle.outside.specs.declared.answers.Hint.TheVariants.{Opened, Readable, Writable, Woken, Over}
-use Rattle.outside.specs.Told.{told_with}
-use Rattle.outside.specs.declared.answers.RestPlace.{RestPlace}
+use Rattle.streams.specs.Told.{told_with}
+use Rattle.streams.specs.declared.rest_place.RestPlace.{RestPlace}
 use Rattle.outside.specs.LinksState.{Arrived, LinksState}
 
 -- The next connection was opened: numbers are given in order, only where there is room, never once all is over, and no more than are accepted.

@@ -1,10 +1,10 @@
 -- What a binder answers, and what is kept of the links that came back to it.
 use Rattle.std.specs.Prelude.{◌≡◌, ◌≢◌, ℕ, ◌≤◌, Bool, List, [], ◌∷◌, ◌++◌, Option, Some, None, Result, Err}
-use Rattle.outside.specs.Cause.{Rose}
-use Rattle.outside.specs.declared.marks.Mark.{Mark}
+use Rattle.streams.specs.Cause.{Rose}
+use Rattle.streams.specs.declared.marks.Mark.{Mark}
 use Rattle.outside.specs.declared.binder.BindFail.{BindFail}
 use Rattle.outside.specs.declared.binder.BindFail.TheVariants.{Failed}
-use Rattle.outside.specs.Told.{StartsEmpty}
+use Rattle.streams.specs.Told.{StartsEmpty}
 use Rattle.outside.specs.LinksState.{Listening, LinksState}
 use Rattle.outside.specs.Opening.{AreFreshLinks}
 

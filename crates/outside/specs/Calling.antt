@@ -1,7 +1,7 @@
 -- What a dialled port answers with, and what is kept of the pipes that were hung up.
 use Rattle.std.specs.Prelude.{◌≡◌, ℕ, Bool, false, ◌||◌, nat_lt, if◌then◌else◌, List, [], ◌∷◌, ◌++◌, Option, None, Some, IfSome}
-use Rattle.outside.specs.Cause.{next_count}
-use Rattle.outside.specs.Told.{StartsEmpty}
+use Rattle.streams.specs.Cause.{next_count}
+use Rattle.streams.specs.Told.{StartsEmpty}
 use Rattle.outside.specs.Pipes.{PipeState}
 
 -- a pipe that was hung up: its port, what was written to it and what was read of it, and whether a read answered the end

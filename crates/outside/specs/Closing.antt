@@ -1,7 +1,7 @@
 -- What it leaves that a connection is closed.
 use Rattle.std.specs.Prelude.{◌≡◌, ℕ, false, [], ◌∷◌}
-use Rattle.outside.specs.declared.marks.Mark.TheVariants.{Closed}
-use Rattle.outside.specs.Told.{told_with}
+use Rattle.streams.specs.declared.marks.Mark.TheVariants.{Closed}
+use Rattle.streams.specs.Told.{told_with}
 use Rattle.outside.specs.LinksState.{LinksState, ChangesOnly}
 
 -- Connection c was closed: it isn't open any more, and all else of it stays.

@@ -1,7 +1,7 @@
 -- What links are to those who use them: connections, each a link, that are opened, read, written and closed.
 use Rattle.std.specs.Prelude.{◌≡◌, ◌≢◌, ℕ, Bool, false, Option, List, []}
-use Rattle.outside.specs.declared.marks.Mark.{Mark}
-use Rattle.outside.specs.declared.answers.RestPlace.{RestPlace}
+use Rattle.streams.specs.declared.marks.Mark.{Mark}
+use Rattle.streams.specs.declared.rest_place.RestPlace.{RestPlace}
 
 -- what has arrived on a connection: the bytes that aren't read, and whether its end has arrived after them
 pub record Arrived : Type 0 where

@@ -1,7 +1,7 @@
 -- What a pipe is to those who use it: a connection that was dialled.
 use Rattle.std.specs.Prelude.{◌≡◌, ℕ, Bool, ◌||◌, ◌&&◌, nat_eq, nat_lt, List, Option, None, Some, Result, MatchResult, length}
-use Rattle.outside.specs.Cause.{HasCause}
-use Rattle.outside.specs.Content.{HasRead, HasWritten}
+use Rattle.streams.specs.Cause.{HasCause}
+use Rattle.streams.specs.Content.{HasRead, HasWritten}
 
 -- the port; the bytes that were written, and those that were read; the bytes that reads will still give; whether a read has answered the end; and how
 -- many reads and how many writes failed. Bytes and end may be untold.

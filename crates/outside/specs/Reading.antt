@@ -1,11 +1,11 @@
 -- What a read of a connection answers and leaves.
 use Rattle.std.specs.Prelude.{◌≡◌, ℕ, List, [], ◌∷◌, ◌++◌, length, take, Option, Some, None, IfSome}
-use Rattle.outside.specs.declared.marks.Mark.{Mark}
-use Rattle.outside.specs.declared.marks.Mark.TheVariants.{Read, Ended, ReadFailed}
-use Rattle.outside.specs.Content.{told_before, IsSpent}
+use Rattle.streams.specs.declared.marks.Mark.{Mark}
+use Rattle.streams.specs.declared.marks.Mark.TheVariants.{Read, Ended, ReadFailed}
+use Rattle.streams.specs.Content.{told_before, IsSpent}
 use Rattle.outside.specs.declared.answers.Taken.{Taken}
 use Rattle.outside.specs.declared.answers.Taken.TheVariants.{Bytes, End, NotYet, Failed, NoMemory}
-use Rattle.outside.specs.Told.{told_with}
+use Rattle.streams.specs.Told.{told_with}
 use Rattle.outside.specs.LinksState.{Arrived, nothing_arrived, LinksState, ChangesOnly}
 use Rattle.outside.specs.Faults.{CountsItsFault, MovesWithin, length_lent}
 

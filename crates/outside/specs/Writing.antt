@@ -1,10 +1,10 @@
 -- What a write on a connection answers and leaves.
 use Rattle.std.specs.Prelude.{◌≡◌, ◌≢◌, ℕ, List, [], ◌∷◌, length, take}
-use Rattle.outside.specs.declared.marks.Mark.{Mark}
-use Rattle.outside.specs.declared.marks.Mark.TheVariants.{Wrote, WriteFailed}
+use Rattle.streams.specs.declared.marks.Mark.{Mark}
+use Rattle.streams.specs.declared.marks.Mark.TheVariants.{Wrote, WriteFailed}
 use Rattle.outside.specs.declared.answers.Taken.{Taken}
 use Rattle.outside.specs.declared.answers.Taken.TheVariants.{Bytes, End, NotYet, Failed, NoMemory}
-use Rattle.outside.specs.Told.{told_with}
+use Rattle.streams.specs.Told.{told_with}
 use Rattle.outside.specs.LinksState.{LinksState, ChangesOnly}
 use Rattle.outside.specs.Faults.{CountsItsFault, MovesWithin, length_lent}
 

@@ -40,12 +40,3 @@ pub struct Ask {
     /// Some connection is held because the read budget has no room.
     pub held: bool,
 }
-
-/// A place of the tape at which nothing was owed.
-#[derive(Clone, Copy)]
-pub struct RestPlace {
-    /// How many marks stand before it.
-    pub place: usize,
-    /// Whether some connection was held there because the read budget had no room.
-    pub held: bool,
-}

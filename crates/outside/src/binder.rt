@@ -1,7 +1,7 @@
 //! The trait of what makes links and pipes.
 
 ghost use Rattle.std.specs.Prelude.{◌≡◌, ℕ, List, Option, IfOk, IsSome, is_some};
-ghost use Rattle.outside.specs.Cause.{next_if_faulty};
+ghost use Rattle.streams.specs.Cause.{next_if_faulty};
 ghost use Rattle.outside.specs.Binding.{PastLinks, StartListening, HasBindCause, told_past};
 ghost use Rattle.outside.specs.Calling.{PastPipe, StartsCalling, told_called, next_if_either};
 

@@ -1,63 +1,34 @@
-//! The outside as the program sees it: a source of bytes, a sink for bytes and a store of files, each with a meaning
-//! that may be untold and a count of faults; kinds in memory that tell everything, for tests and proofs; and thin
-//! adapters over the standard streams and the system's files that tell nothing. It decides nothing about their bytes.
-//! Of connections it has what a loop sees: links, the bell that wakes the loop, the binder that makes them, and the gate
-//! that a worker passes; what a client sees, a pipe, which the binder dials; and the tape of what happened, in two vectors, so that a mark takes no memory of its own.
+//! The outside as the program sees it. Of connections it has what a loop sees: links, the bell that wakes the loop, the
+//! binder that makes them, and the gate that a worker passes; and what a client sees, a pipe, which the binder dials. Streams
+//! of bytes, files, and the marks and tapes of what happened are those of `streams`, and are handed on here.
 //!
-//! A layer above takes `S: Source`, `K: Sink` or `F: Files` and hands each `Failed` on with its cause: the count rose.
+//! A loop asks links what is next, and reads and writes on those that are open:
 //!
 //! ```rust
-//! fn copy<S: Source, K: Sink>(source: &mut S, sink: &mut K) -> Result<usize, Failed> {
-//!     let mut into = [0u8; 4096];
-//!     let count = source.read(&mut into)?;
-//!     sink.write(&into[..count])
+//! match links.next(rt, Ask { idle, room, held })? {
+//!     Hint::Readable(c) => match links.read(c, &mut into) {
+//!         Taken::Bytes(count) => ..,
+//!         ..
+//!     },
+//!     ..
 //! }
-//!
-//! let mut source = MemSource::in_pieces(content, fails, 2);
-//! let mut sink = MemSink::new(alloc, Vec::new(alloc));
-//! copy(&mut source, &mut sink)?;
-//! let text = files.read_whole(alloc, "a.thrift", limit)?;
 //! ```
 
 #![tactic(auto)]
 
 mod answers;
 mod binder;
-mod cursor;
-mod files;
 mod gate;
 mod links;
-mod mark_at;
-mod mark_row;
-mod marks;
-mod mem_files;
-mod mem_sink;
-mod mem_source;
-mod octets;
-mod outcomes;
 mod pipe;
-mod real;
-mod real_files;
-mod streams;
-mod tape;
-mod tape_log;
 
-pub use answers::{Ask, Hint, RestPlace, Taken};
+pub use answers::{Ask, Hint, Taken};
 pub use binder::{BindFail, Binder};
-pub use cursor::Cursor;
-pub use files::{FileFail, Files};
 pub use gate::{EmptyGate, Gate};
 pub use links::{Bell, Links};
-pub use mark_at::MarkAt;
-pub use marks::Mark;
-pub use mem_files::MemFiles;
-pub use mem_sink::MemSink;
-pub use mem_source::MemSource;
-pub use octets::Bytes;
-pub use outcomes::{EnvelopeFault, Settled};
 pub use pipe::Pipe;
-pub use real::{RealIn, RealOut};
-pub use real_files::RealFiles;
-pub use streams::{Failed, Sink, Source, write_all};
-pub use tape::Tape;
-pub use tape_log::TapeLog;
+pub use streams::{
+    Bytes, Cursor, EnvelopeFault, Failed, FileFail, Files, Mark, MarkAt, MemFiles, MemSink,
+    MemSource, RealFiles, RealIn, RealOut, RestPlace, Settled, Sink, Source, Tape, TapeLog,
+    write_all,
+};

@@ -8,9 +8,9 @@ ghost use Rattle.outside.specs.Writing.{WritesToConnection};
 ghost use Rattle.outside.specs.Closing.{Closes};
 
 use crate::answers::{Ask, Hint, Taken};
-use crate::streams::Failed;
 use std::alloc::{AllocError, Global};
 use std::sync::Wait;
+use streams::Failed;
 
 /// Wakes a loop that waits for its links. Any thread may ring it.
 pub trait Bell: Send + Sync + Drop {

@@ -3,7 +3,7 @@
 ghost use Rattle.std.specs.Prelude.{◌≡◌};
 ghost use Rattle.outside.specs.Pipes.{PipeState, Receives, Sends};
 
-use crate::streams::{Failed, Sink, Source};
+use streams::{Failed, Sink, Source};
 
 /// A connection that was dialled: bytes go out on it, and bytes come back. That a read leaves what was written, and a write what was read, neither `Source` nor `Sink`
 /// can say alone; so there is a call of its own for each, which who talks on a pipe uses.

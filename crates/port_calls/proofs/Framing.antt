@@ -1,7 +1,7 @@
 -- What is known of a frame of which parts were heard.
 use Rattle.std.proofs.Common.{◌≡◌, ℕ, ℤ, pos, ◌<◌, ◌≤◌, ◌^◌, true, false, List, ◌++◌, length, Ok, Err, sym, ap, ◌∙◌, subst, arith}
 use Rattle.std.specs.Int.{w32, to_be_bytes}
-use Rattle.outside.specs.Cause.{Rose}
+use Rattle.streams.specs.Cause.{Rose}
 use Rattle.outside.specs.Pipes.{PipeState}
 use Rattle.host_model.specs.Frames.{size_bytes, IsOutside, IsPartial}
 use Rattle.port_calls.specs.Exchanging.{HasGot, HasHeard, HasHeardFrame, fault_of}

@@ -1,8 +1,8 @@
 -- What is known of who dialled, once the pipe was hung up.
 use Rattle.std.proofs.Common.{◌≡◌, ℕ, ◌<◌, Bool, true, false, List, [], ◌∷◌, ◌++◌, Option, Some, None, Result, Ok, Err, inl, inr, refl, ap, subst, ◌∙◌, cond, lt-ltb, arith}
 use Rattle.std.specs.Prelude.{◌⊎◌, ◌||◌, nat_lt}
-use Rattle.outside.specs.Cause.{Rose, next_count}
-use Rattle.outside.specs.Content.{told_more}
+use Rattle.streams.specs.Cause.{Rose, next_count}
+use Rattle.streams.specs.Content.{told_more}
 use Rattle.outside.specs.Binding.{HasBindCause}
 use Rattle.outside.specs.Pipes.{PipeState, told_end}
 use Rattle.outside.specs.Calling.{PastPipe, StartsCalling, called_with, told_called, next_if_either}

@@ -2,8 +2,8 @@
 use Rattle.std.proofs.Common.{◌≡◌, ℕ, ◌<◌, Bool, true, false, List, [], ◌++◌, length, take, Option, Some, None, Ok, Err, refl, sym, ap, ap₂, ◌∙◌, lt-ltb, eq-eqb, ne_eqb, append_assoc, append-nil, subst, arith}
 use Rattle.std.specs.Prelude.{◌&&◌, nat_lt, nat_eq}
 use Rattle.std.proofs.lemmas.Bool.{and_right}
-use Rattle.outside.specs.Cause.{Rose}
-use Rattle.outside.specs.Content.{told_more}
+use Rattle.streams.specs.Cause.{Rose}
+use Rattle.streams.specs.Content.{told_more}
 use Rattle.outside.specs.Pipes.{PipeState, Receives, told_end, is_end}
 use Rattle.port_calls.specs.Exchanging.{HasGot, HasHeard}
 use Rattle.port_calls.specs.declared.hearing.Unheard.TheVariants as unheard

@@ -1,8 +1,8 @@
 -- What is sent on a pipe in pieces.
 use Rattle.std.proofs.Common.{◌≡◌, ℕ, ◌≤◌, List, [], take, drop, Ok, Err, refl, sym, ◌∙◌, take-append-drop, arith}
-use Rattle.outside.specs.Cause.{Rose}
-use Rattle.outside.specs.Taken.{IsTakenBut}
-use Rattle.outside.proofs.Taking.{none_taken, taken_on, all_told}
+use Rattle.streams.specs.Cause.{Rose}
+use Rattle.streams.specs.Taken.{IsTakenBut}
+use Rattle.streams.proofs.Taking.{none_taken, taken_on, all_told}
 use Rattle.outside.specs.Pipes.{PipeState, Sends}
 use Rattle.port_calls.specs.Exchanging.{HasSent}
 

@@ -1,8 +1,8 @@
 -- What is known of a pipe on which was talked.
 use Rattle.std.proofs.Common.{◌≡◌, ℕ, Bool, true, false, List, [], Some, None, Ok, Err, inl, inr, refl, sym, ap, ◌∙◌, append-nil, arith}
-use Rattle.outside.specs.Cause.{Rose}
-use Rattle.outside.specs.Content.{told_more}
-use Rattle.outside.specs.Taken.{IsTakenBut}
+use Rattle.streams.specs.Cause.{Rose}
+use Rattle.streams.specs.Content.{told_more}
+use Rattle.streams.specs.Taken.{IsTakenBut}
 use Rattle.outside.specs.Pipes.{PipeState, told_end}
 use Rattle.host_model.specs.Frames.{IsPartial}
 use Rattle.host_model.proofs.Framing.{rest_nil, size_nil}

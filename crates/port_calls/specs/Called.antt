@@ -1,8 +1,8 @@
 -- What an answer says of the pipe and of the output.
 use Rattle.std.specs.Prelude.{◌≡◌, ◌⊎◌, ℕ, List, Option, None, Some, Result, Ok, Err}
 use Rattle.outside.specs.Calling.{PastPipe}
-use Rattle.outside.specs.Content.{told_more}
-use Rattle.outside.specs.Taken.{IsTakenInPart}
+use Rattle.streams.specs.Content.{told_more}
+use Rattle.streams.specs.Taken.{IsTakenInPart}
 use Rattle.client_desk.specs.declared.heard_fault.HeardFault.{HeardFault}
 use Rattle.client_desk.specs.Hearing.{PlainHeard, heard}
 use Rattle.port_calls.specs.Asked.{MeansAsked}

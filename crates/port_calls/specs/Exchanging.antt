@@ -1,8 +1,8 @@
 -- Steps of an exchange on a pipe: what is sent, and what is heard.
 use Rattle.std.specs.Prelude.{◌≡◌, ◌≢◌, ◌⊎◌, ℕ, ◌<◌, ◌≤◌, Bool, true, false, List, [], Option, None, Some, Result, Ok, Err, MatchResult, length}
-use Rattle.outside.specs.Cause.{Rose, HasCause}
-use Rattle.outside.specs.Content.{told_more}
-use Rattle.outside.specs.Taken.{IsTakenInPart}
+use Rattle.streams.specs.Cause.{Rose, HasCause}
+use Rattle.streams.specs.Content.{told_more}
+use Rattle.streams.specs.Taken.{IsTakenInPart}
 use Rattle.outside.specs.Pipes.{PipeState, told_end}
 use Rattle.host_model.specs.Conversation.{IsPrefix}
 use Rattle.host_model.specs.Frames.{frame, size_bytes, IsPayload, IsOutside, IsPartial}

@@ -1,7 +1,7 @@
 -- Steps of a call on the way to what it promises. No clause of `call_port` cites them.
 use Rattle.std.specs.Prelude.{◌≡◌, ⊤, ℕ, Bool, List, Option, None, Some, IsErr, Result, Ok, Err}
-use Rattle.outside.specs.Content.{told_more}
-use Rattle.outside.specs.Taken.{IsTakenInPart}
+use Rattle.streams.specs.Content.{told_more}
+use Rattle.streams.specs.Taken.{IsTakenInPart}
 use Rattle.client_desk.specs.declared.ask_fault.AskFault.{AskFault}
 use Rattle.client_desk.specs.declared.heard_fault.HeardFault.{HeardFault}
 use Rattle.client_desk.specs.Asking.{asked_frame}

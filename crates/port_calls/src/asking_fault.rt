@@ -3,7 +3,7 @@
 ghost use Rattle.std.specs.Prelude.{◌≡◌};
 ghost use Rattle.port_calls.specs.declared.asking_fault.AskingFault.TheVariants.{NetFault, NoMemory};
 
-use outside::Failed;
+use streams::Failed;
 use std::alloc::AllocError;
 use thiserror::Error;
 

@@ -1,7 +1,7 @@
 //! A call at a port, from its words to its line.
 
 ghost use Rattle.std.specs.Prelude.{◌≡◌, ◌≢◌, true, false, None, Some, Err, IfOk, IsSome, MatchOption};
-ghost use Rattle.outside.specs.Cause.{Rose};
+ghost use Rattle.streams.specs.Cause.{Rose};
 ghost use Rattle.call_model.specs.Names.{separator_of};
 ghost use Rattle.client_desk.specs.Asking.{asked_frame};
 ghost use Rattle.client_desk.specs.ClientOf.{plain_client};
@@ -22,7 +22,8 @@ use crate::call::PortCall;
 use crate::fault::{CallFault, CallRefusal, ReplyRefusal};
 use crate::lines::{SENT, heard_line};
 use client_desk::{AskFault, Client, HeardFault};
-use outside::{Binder, Sink, write_all};
+use outside::Binder;
+use streams::{Sink, write_all};
 use schema::Schema;
 use std::alloc::{AllocError, Global};
 use thrift_value::{ByteText, Value};

@@ -7,7 +7,8 @@ ghost use Rattle.port_calls.specs.declared.hearing.Unheard.TheVariants.{NetFault
 
 use crate::asking_fault::AskingFault;
 use host_model::laws::less_than_a_frame;
-use outside::{Failed, Pipe};
+use outside::Pipe;
+use streams::Failed;
 use std::alloc::{AllocError, Global};
 
 /// Why bytes weren't read.

@@ -2,7 +2,8 @@
 
 ghost use Rattle.port_calls.specs.Exchanging.{HasSent};
 
-use outside::{Failed, Pipe};
+use outside::Pipe;
+use streams::Failed;
 
 /// Sends all of these bytes.
 pub(crate) fn send_all<P: Pipe>(pipe: &mut P, bytes: &[u8]) -> Result<(), Failed>

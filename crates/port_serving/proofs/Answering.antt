@@ -1,9 +1,9 @@
 -- From what was done to what the answer says.
 use Rattle.std.proofs.Common.{◌≡◌, ◌⊎◌, inl, inr, ⊎_elim, ℕ, Bool, false, List, [], ◌++◌, Option, Result, Ok, Err, MatchResult, refl, sym, ap, ◌∙◌, subst}
-use Rattle.outside.specs.Content.{told_more}
-use Rattle.outside.specs.Taken.{IsTakenBut, IsTakenInPart}
-use Rattle.outside.proofs.Taking.{all_taken, all_told, taken_on, taken_of_more}
-use Rattle.outside.specs.Files.{File}
+use Rattle.streams.specs.Content.{told_more}
+use Rattle.streams.specs.Taken.{IsTakenBut, IsTakenInPart}
+use Rattle.streams.proofs.Taking.{all_taken, all_told, taken_on, taken_of_more}
+use Rattle.streams.specs.Files.{File}
 use Rattle.outside.specs.LinksState.{Listening}
 use Rattle.outside.specs.Binding.{PastLinks}
 use Rattle.outside.specs.declared.binder.BindFail.{BindFail}

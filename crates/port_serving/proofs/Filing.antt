@@ -5,10 +5,10 @@ use Rattle.std.specs.Result.{is_err}
 use Rattle.std.specs.Str.{bytes_eq}
 use Rattle.std.proofs.lemmas.Option.{same_Some}
 use Rattle.std.proofs.lemmas.Slice.Eq.{bytes_eq-Decides}
-use Rattle.outside.specs.Content.{told_more}
-use Rattle.outside.specs.Told.{StartsEmpty}
-use Rattle.outside.specs.Files.{File}
-use Rattle.outside.specs.Making.{with_file, told_with_file, IsThere}
+use Rattle.streams.specs.Content.{told_more}
+use Rattle.streams.specs.Told.{StartsEmpty}
+use Rattle.streams.specs.Files.{File}
+use Rattle.streams.specs.Making.{with_file, told_with_file, IsThere}
 use Rattle.host_model.specs.Report.{journal_lines}
 use Rattle.call_rules.specs.Entries.{CallEntry}
 use Rattle.journal_text.specs.EntryText.{entry_text}

@@ -1,7 +1,7 @@
 -- Links that came back to a binder.
 use Rattle.std.proofs.Common.{◌≡◌, ℕ, Bool, false, List, [], ◌∷◌, ◌++◌, Option, Some, None, IfSome, IsSome, refl, sym, ap, ◌∙◌, subst}
 use Rattle.std.proofs.lemmas.Option.{same_Some}
-use Rattle.outside.specs.declared.marks.Mark.{Mark}
+use Rattle.streams.specs.declared.marks.Mark.{Mark}
 use Rattle.outside.specs.LinksState.{Listening, LinksState}
 use Rattle.outside.specs.Binding.{PastLinks, past_with, told_past, StartListening}
 use Rattle.machine_model.specs.SeenHall.{MayHave}

@@ -1,7 +1,7 @@
 -- From a run of serving over links that listen here, and a journal in a file, to a place that was served.
 use Rattle.std.proofs.Common.{◌≡◌, ℕ, ◌<◌, ◌≤◌, if◌then◌else◌, Bool, true, false, Option, Some, List, refl, sym, ap, ◌∙◌, subst, arith}
 use Rattle.std.proofs.lemmas.Bool.{lt-ltb}
-use Rattle.outside.specs.Cause.{Rose, next_count, next_if_faulty}
+use Rattle.streams.specs.Cause.{Rose, next_count, next_if_faulty}
 use Rattle.outside.specs.Binding.{StartListening, told_past}
 use Rattle.conn_table.specs.declared.run_limits.Outcome.{Outcome}
 use Rattle.conn_table.specs.declared.run_limits.Outcome.TheVariants as outcomes

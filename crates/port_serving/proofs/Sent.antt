@@ -1,7 +1,7 @@
 -- A file's journal may be sent to another thread, where its sink may.
 use denote.RattleType.{RattleType}
 use denote.Param.Send.{IsSend, sendable}
-use Rattle.outside.specs.declared.streams.Sink.{Ghosts}
+use Rattle.streams.specs.declared.streams.Sink.{Ghosts}
 use Rattle.journal_text.proofs.Sent.{spool_journal_send}
 use Rattle.port_serving.specs.contracts.file_journal.FileJournal as FileJournal
 

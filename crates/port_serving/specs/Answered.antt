@@ -1,7 +1,7 @@
 -- What an answer to serving at a place says of the files, the binder and the output.
 use Rattle.std.specs.Prelude.{◌≡◌, ◌⊎◌, ℕ, Bool, true, false, Option, List, [], Result, MatchResult}
-use Rattle.outside.specs.Content.{told_more}
-use Rattle.outside.specs.Taken.{IsTakenInPart}
+use Rattle.streams.specs.Content.{told_more}
+use Rattle.streams.specs.Taken.{IsTakenInPart}
 use Rattle.host_model.specs.declared.cause.EndCause.{EndCause}
 use Rattle.conn_table.specs.declared.run_limits.Outcome.{Outcome}
 use Rattle.conn_table.specs.declared.run_limits.Outcome.TheVariants as outcomes

@@ -1,7 +1,7 @@
 -- Journals whose lines go into a file that was made for them.
 use Rattle.std.specs.Prelude.{◌≡◌, ℕ, ◌≤◌, Bool, true, false, List, [], ◌++◌, length, Option, Some, IfSome}
-use Rattle.outside.specs.Files.{File}
-use Rattle.outside.specs.Making.{told_with_file}
+use Rattle.streams.specs.Files.{File}
+use Rattle.streams.specs.Making.{told_with_file}
 use Rattle.host_model.specs.Report.{journal_lines}
 use Rattle.call_rules.specs.Entries.{CallEntry}
 use Rattle.journal_text.specs.EntryText.{entry_text}

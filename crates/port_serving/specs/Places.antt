@@ -1,10 +1,10 @@
 -- Where connections are served, and what serving leaves behind there.
 use Rattle.std.specs.Prelude.{◌≡◌, ℕ, Bool, List, [], ◌∷◌, Option, Some, IfSome}
-use Rattle.outside.specs.declared.marks.Mark.{Mark}
-use Rattle.outside.specs.Told.{told_with}
+use Rattle.streams.specs.declared.marks.Mark.{Mark}
+use Rattle.streams.specs.Told.{told_with}
 use Rattle.outside.specs.LinksState.{Listening}
 use Rattle.outside.specs.Binding.{PastLinks}
-use Rattle.outside.specs.Files.{File}
+use Rattle.streams.specs.Files.{File}
 
 -- a place: the port and how many connections are accepted at most, and the name of the journal's file
 pub record PortPlace : Type 0 where

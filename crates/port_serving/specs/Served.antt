@@ -1,6 +1,6 @@
 -- What serving at a place came to.
 use Rattle.std.specs.Prelude.{◌≡◌, ℕ, Bool, true, Some, List}
-use Rattle.outside.specs.Cause.{Rose}
+use Rattle.streams.specs.Cause.{Rose}
 use Rattle.outside.specs.Binding.{StartListening}
 use Rattle.host_model.specs.declared.cause.EndCause.{EndCause}
 use Rattle.conn_table.specs.declared.run_limits.Outcome.{Outcome}

@@ -1,9 +1,9 @@
 -- Steps on the way to a place that was served. No part of the promise: no public clause cites them.
 use Rattle.std.specs.Prelude.{◌≡◌, ◌⊎◌, ℕ, Bool, false, List, [], Option, Some}
-use Rattle.outside.specs.Content.{told_more}
-use Rattle.outside.specs.Taken.{IsTakenInPart}
-use Rattle.outside.specs.Files.{File}
-use Rattle.outside.specs.Making.{told_with_file, IsThere}
+use Rattle.streams.specs.Content.{told_more}
+use Rattle.streams.specs.Taken.{IsTakenInPart}
+use Rattle.streams.specs.Files.{File}
+use Rattle.streams.specs.Making.{told_with_file, IsThere}
 use Rattle.outside.specs.LinksState.{Listening, LinksState}
 use Rattle.outside.specs.Binding.{PastLinks, StartListening}
 use Rattle.outside.specs.declared.binder.BindFail.{BindFail}

@@ -1,9 +1,9 @@
 //! A journal whose lines go into a file that was made for them.
 
 ghost use Rattle.std.specs.Prelude.{◌≡◌, ◌≤◌, [], List, Option, Some, true, false, IfOk, IfErr, OnOk, Err, MatchResult};
-ghost use Rattle.outside.specs.Cause.{Rose, next_if_faulty};
-ghost use Rattle.outside.specs.Files.{File};
-ghost use Rattle.outside.specs.Making.{told_with_file, IsThere};
+ghost use Rattle.streams.specs.Cause.{Rose, next_if_faulty};
+ghost use Rattle.streams.specs.Files.{File};
+ghost use Rattle.streams.specs.Making.{told_with_file, IsThere};
 ghost use Rattle.journal_text.specs.JournalStates.{appended_count};
 ghost use Rattle.port_serving.specs.FileJournals.{IsUnused, KeepsLines, KeepsJournal};
 ghost use Rattle.port_serving.specs.Steps.{BeginsJournal, OpensJournal, EndsOpening};
@@ -11,7 +11,7 @@ ghost use Rattle.port_serving.specs.Steps.{BeginsJournal, OpensJournal, EndsOpen
 use crate::fault::PortFault;
 use call_rules::{Entry, Journal};
 use journal_text::{NoJournal, SpoolJournal};
-use outside::{Failed, Files, Sink};
+use streams::{Failed, Files, Sink};
 use std::alloc::{AllocError, Global};
 use std::marker::Model;
 

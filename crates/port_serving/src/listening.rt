@@ -1,11 +1,12 @@
 //! Listening at a port, and the line that tells so.
 
 ghost use Rattle.std.specs.Prelude.{◌≡◌, ◌≢◌, ◌≤◌, Err, MatchResult, OnOk};
-ghost use Rattle.outside.specs.Cause.{Rose};
+ghost use Rattle.streams.specs.Cause.{Rose};
 ghost use Rattle.port_serving.specs.Steps.{StartsListening, EndsListening};
 
 use crate::fault::PortFault;
-use outside::{Binder, Sink};
+use outside::Binder;
+use streams::Sink;
 use run_report::write_listening;
 use std::alloc::Global;
 

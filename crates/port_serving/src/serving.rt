@@ -1,10 +1,10 @@
 //! A port, served from its listening to the summary.
 
 ghost use Rattle.std.specs.Prelude.{◌≡◌, ◌≢◌, ℕ, true, false, [], List, Option, Some, length, map, Err, OnOk};
-ghost use Rattle.outside.specs.Cause.{Rose};
-ghost use Rattle.outside.specs.Content.{told_more};
-ghost use Rattle.outside.specs.Files.{File};
-ghost use Rattle.outside.specs.Making.{told_with_file, IsThere};
+ghost use Rattle.streams.specs.Cause.{Rose};
+ghost use Rattle.streams.specs.Content.{told_more};
+ghost use Rattle.streams.specs.Files.{File};
+ghost use Rattle.streams.specs.Making.{told_with_file, IsThere};
 ghost use Rattle.outside.specs.Binding.{StartListening};
 ghost use Rattle.conn_table.specs.declared.run_limits.Outcome.TheVariants as outcomes;
 ghost use Rattle.run_report.specs.Summary.{listening_line};
@@ -21,7 +21,8 @@ use crate::place::ServedPort;
 use call_rules::{Desk, Handler};
 use conn_table::{Ends, Limits, Outcome};
 use host_loop::{Served, serve};
-use outside::{Binder, Files, Gate, Sink};
+use outside::{Binder, Gate};
+use streams::{Files, Sink};
 use run_report::write_summary;
 use std::alloc::Global;
 use std::sync::Wait;

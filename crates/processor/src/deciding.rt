@@ -15,7 +15,7 @@ use crate::names::{BoundService, name_parts, service_asked};
 use crate::office::Office;
 use call_rules::{Call, Decision};
 use envelope::{HeadFault, LentHead, lend_head};
-use outside::Bytes;
+use streams::Bytes;
 use schema::FnDesc;
 use std::alloc::{AllocError, Global};
 use thrift_value::{ByteText, Value};

@@ -1,6 +1,6 @@
 -- What is counted from a run of a workload is what is expected of it.
 use Rattle.std.proofs.Common.{◌≡◌, ℕ, ℤ, ◌-◌, ◌*◌, ◌^◌, ◌≤◌, ◌≢◌, zero, suc, Bool, true, false, ◌||◌, Some, List, [], ◌∷◌, min, length, slice_get, refl, ap, ◌∙◌, arith}
-use Rattle.outside.specs.declared.marks.Mark.{Mark}
+use Rattle.streams.specs.declared.marks.Mark.{Mark}
 use Rattle.host_model.specs.declared.cause.EndCause.{EndCause}
 use Rattle.host_model.specs.declared.cause.EndCause.TheVariants.{NoMemory}
 use Rattle.std.proofs.lemmas.Option.{none-some, same_Some}

@@ -1,7 +1,7 @@
 -- An input that is no script, from what was read of it.
 use Rattle.std.proofs.Common.{◌≡◌, ℕ, Option, List, sym, ap, ◌∙◌}
 use Rattle.std.specs.Prelude.{Err}
-use Rattle.outside.specs.Content.{told_before, IsSpent}
+use Rattle.streams.specs.Content.{told_before, IsSpent}
 use Rattle.script_text.specs.declared.fault.ScriptFault.{ScriptFault}
 use Rattle.recorded_runs.specs.Recorded.{ScriptReading, IsRefusedInput}
 use Rattle.recorded_runs.proofs.OneReport.{all_read}

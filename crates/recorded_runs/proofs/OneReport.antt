@@ -2,8 +2,8 @@
 use Rattle.std.proofs.Common.{◌≡◌, ℕ, Option, Some, List, ◌++◌, sym, ap, ◌∙◌, subst, append-nil}
 use Rattle.std.specs.Prelude.{None, Result, Ok}
 use Rattle.std.proofs.lemmas.Option.{same_Some}
-use Rattle.outside.specs.Content.{told_before, IsSpent}
-use Rattle.outside.specs.declared.marks.Mark.{Mark}
+use Rattle.streams.specs.Content.{told_before, IsSpent}
+use Rattle.streams.specs.declared.marks.Mark.{Mark}
 use Rattle.host_model.specs.declared.cause.EndCause.{EndCause}
 use Rattle.host_model.specs.declared.cause.EndCause.TheVariants.{NoMemory}
 use Rattle.host_model.specs.Report.{report}

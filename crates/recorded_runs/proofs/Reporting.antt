@@ -1,7 +1,7 @@
 -- A report that was written, or a beginning of it.
 use Rattle.std.proofs.Common.{◌≡◌, ℕ, List, Option, take, ap, ◌∙◌, inr}
-use Rattle.outside.specs.Content.{told_more}
-use Rattle.outside.specs.declared.marks.Mark.{Mark}
+use Rattle.streams.specs.Content.{told_more}
+use Rattle.streams.specs.declared.marks.Mark.{Mark}
 use Rattle.host_model.specs.declared.cause.EndCause.{EndCause}
 use Rattle.host_model.specs.Report.{report}
 use Rattle.call_rules.specs.Entries.{CallEntry}

@@ -1,6 +1,6 @@
 -- A run in memory, as a run of a script.
 use Rattle.std.proofs.Common.{◌≡◌, ◌<◌, ◌^◌, List, ◌++◌, Some, sym, subst}
-use Rattle.outside.specs.declared.marks.Mark.{Mark}
+use Rattle.streams.specs.declared.marks.Mark.{Mark}
 use Rattle.host_model.specs.DeskRules.{DeskRules}
 use Rattle.host_model.specs.Headline.{Headline}
 use Rattle.host_model.proofs.Runs as host

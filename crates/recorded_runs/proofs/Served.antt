@@ -1,9 +1,9 @@
 -- A run of serving links over a script is one of the script.
 use Rattle.std.proofs.Common.{◌≡◌, ℕ, ◌<◌, ◌^◌, true, Option, Some, IfSome, List, [], ◌∷◌, ◌++◌, slice_get, refl, sym, ap, ◌∙◌, subst}
-use Rattle.outside.specs.declared.marks.Mark.{Mark}
-use Rattle.outside.specs.declared.marks.Mark.TheVariants.{Read, Wrote}
+use Rattle.streams.specs.declared.marks.Mark.{Mark}
+use Rattle.streams.specs.declared.marks.Mark.TheVariants.{Read, Wrote}
 use Rattle.std.proofs.lemmas.Grind.{flat_map-append}
-use Rattle.outside.specs.Cause.{Rose}
+use Rattle.streams.specs.Cause.{Rose}
 use Rattle.outside.specs.LinksState.{LinksState}
 use Rattle.host_model.specs.Marks.{marks_of, read_by, input}
 use Rattle.host_model.proofs.Filters.{marks_append}

@@ -1,7 +1,7 @@
 -- What the answer to a recording says of its input and its output, in whatever way texts are read as scripts, and whatever makes a run one of a script.
 use Rattle.std.specs.Prelude.{◌≡◌, ℕ, ◌⊎◌, ⊤, List, Option, Some, Result, Ok, Err, MatchResult, take}
-use Rattle.outside.specs.Content.{told_before, told_more, IsSpent}
-use Rattle.outside.specs.declared.marks.Mark.{Mark}
+use Rattle.streams.specs.Content.{told_before, told_more, IsSpent}
+use Rattle.streams.specs.declared.marks.Mark.{Mark}
 use Rattle.host_model.specs.declared.cause.EndCause.{EndCause}
 use Rattle.host_model.specs.Report.{report}
 use Rattle.call_rules.specs.Entries.{CallEntry}

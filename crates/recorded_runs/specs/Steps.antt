@@ -1,6 +1,6 @@
 -- Steps on the way to an answered recording. No part of the promise: no public clause cites them.
 use Rattle.std.specs.Prelude.{◌≡◌, ◌⊎◌, ℕ, List, take, Option, Result, MatchResult}
-use Rattle.outside.specs.Content.{told_more}
+use Rattle.streams.specs.Content.{told_more}
 use Rattle.call_rules.specs.Entries.{CallEntry}
 use Rattle.script_model.specs.ScriptLines.{ScriptPlan}
 use Rattle.run_report.specs.declared.fault.ReportFault.{ReportFault}

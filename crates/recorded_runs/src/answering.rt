@@ -1,7 +1,7 @@
 //! A recording, answered from its input to its report.
 
 ghost use Rattle.std.specs.Prelude.{◌≡◌, ◌≢◌, ◌≤◌, false, [], List, length, map, Some, Err, OnOk};
-ghost use Rattle.outside.specs.Cause.{Rose};
+ghost use Rattle.streams.specs.Cause.{Rose};
 ghost use Rattle.conn_table.specs.declared.run_limits.Outcome.TheVariants as outcomes;
 ghost use Rattle.call_rules.specs.Entries.{CallEntry};
 ghost use Rattle.script_model.specs.ScriptLines.{ScriptPlan};
@@ -16,7 +16,7 @@ use crate::input::read_input;
 use call_rules::{Desk, Handler};
 use cell_core::{Rehearsed, rehearse};
 use conn_table::{Limits, Outcome};
-use outside::{Sink, Source};
+use streams::{Sink, Source};
 use run_report::{EntryLine, ReportedJournal, write_report};
 use script_text::Script;
 use std::alloc::Global;

@@ -1,8 +1,8 @@
 //! The program's input, read as a whole, and as a script.
 
 ghost use Rattle.std.specs.Prelude.{◌≡◌, ℕ, ◌<◌, ◌≤◌, length, Err, MatchResult, IfOk, OnOk};
-ghost use Rattle.outside.specs.Cause.{Rose};
-ghost use Rattle.outside.specs.Content.{told_before, IsSpent};
+ghost use Rattle.streams.specs.Cause.{Rose};
+ghost use Rattle.streams.specs.Content.{told_before, IsSpent};
 ghost use Rattle.script_text.specs.Reading.{script_of_text};
 ghost use Rattle.script_text.specs.Sound.{MovesItsWorkers};
 ghost use Rattle.script_text.specs.TextLines.{longest_script};
@@ -11,7 +11,7 @@ ghost use Rattle.recorded_runs.specs.declared.input.InputError.TheVariants.{Fail
 
 use crate::fault::ServingFault;
 use limits::{LONGEST_SCRIPT, MOST_READ};
-use outside::{Failed, Source};
+use streams::{Failed, Source};
 use script_text::laws::scripts_are_sound;
 use script_text::{Script, read_script};
 use std::alloc::{AllocError, Global};

@@ -1,7 +1,7 @@
 //! A run of a workload, summed up.
 
 ghost use Rattle.std.specs.Prelude.{◌≡◌, ◌≢◌, ◌≤◌, List, length, Some, Err, IfOk, OnOk};
-ghost use Rattle.outside.specs.Cause.{Rose};
+ghost use Rattle.streams.specs.Cause.{Rose};
 ghost use Rattle.host_model.specs.declared.cause.EndCause.TheVariants.{NoMemory as RanOut};
 ghost use Rattle.conn_table.specs.declared.run_limits.Outcome.TheVariants as outcomes;
 ghost use Rattle.call_rules.specs.Entries.{CallEntry};
@@ -18,7 +18,7 @@ use call_rules::Handler;
 use conn_table::Outcome;
 use host_loop::Served;
 use host_model::EndCause;
-use outside::{Sink, Tape, write_all};
+use streams::{Sink, Tape, write_all};
 use run_report::ReportedJournal;
 use std::alloc::{AllocError, Global};
 use workload::{Summary, answer_adds, bytes_read, bytes_written, print_summary};

@@ -1,7 +1,7 @@
 //! A workload, served from its seed to its summary.
 
 ghost use Rattle.std.specs.Prelude.{◌≡◌, ◌≤◌, false, [], length, map, Some, Err, OnOk};
-ghost use Rattle.outside.specs.Cause.{Rose};
+ghost use Rattle.streams.specs.Cause.{Rose};
 ghost use Rattle.workload.specs.LoadPlan.{workload_plan};
 ghost use Rattle.workload.specs.ExpectedRun.{work_text};
 ghost use Rattle.workload.specs.Summed.{HasCalculator};
@@ -15,7 +15,8 @@ use crate::{Answered, ServingFault};
 use call_rules::{Desk, Handler};
 use conn_table::Limits;
 use host_loop::{Served, serve};
-use outside::{Gate, Sink};
+use outside::Gate;
+use streams::Sink;
 use run_report::ReportedJournal;
 use script_links::ScriptLinks;
 use script_text::Script;

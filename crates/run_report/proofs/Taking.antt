@@ -1,8 +1,8 @@
 -- The causes of a report that isn't written, from call to call.
 use Rattle.std.proofs.Common.{◌≡◌, ℕ, List, [], Option, Result, Ok, Err, MatchResult, subst, append_assoc, append-nil}
-use Rattle.outside.specs.Content.{told_more}
-use Rattle.outside.specs.Taken.{IsTakenBut, IsTakenInPart, TakesText}
-use Rattle.outside.proofs.Taking.{none_taken, none_in_part, all_taken, all_told, taken_on, next_taken, next_in_part, last_in_part, part_told}
+use Rattle.streams.specs.Content.{told_more}
+use Rattle.streams.specs.Taken.{IsTakenBut, IsTakenInPart, TakesText}
+use Rattle.streams.proofs.Taking.{none_taken, none_in_part, all_taken, all_told, taken_on, next_taken, next_in_part, last_in_part, part_told}
 use Rattle.run_report.specs.declared.fault.ReportFault.{ReportFault}
 use Rattle.run_report.specs.Pieces.{HasReportCause}
 

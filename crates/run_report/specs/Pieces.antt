@@ -1,6 +1,6 @@
 -- Why a report wasn't handed to a sink.
 use Rattle.std.specs.Prelude.{◌≡◌, ℕ, ◌≤◌, Result, Err, OnOk}
-use Rattle.outside.specs.Cause.{Rose}
+use Rattle.streams.specs.Cause.{Rose}
 use Rattle.run_report.specs.declared.fault.ReportFault.{ReportFault}
 use Rattle.run_report.specs.declared.fault.ReportFault.TheVariants.{Failed}
 

@@ -3,7 +3,7 @@
 ghost use Rattle.std.specs.Prelude.{◌≡◌};
 ghost use Rattle.run_report.specs.declared.fault.ReportFault.TheVariants.{Failed as SinkFailed, NoMemory as NoRoom};
 
-use outside::Failed;
+use streams::Failed;
 use std::alloc::{AllocError, AllocFailed};
 use thiserror::Error;
 

@@ -3,12 +3,12 @@
 ghost use Rattle.std.specs.Prelude.{◌≡◌, ◌∷◌, [], ◌++◌, codes, length, OnOk};
 ghost use Rattle.text_out.specs.Decimal.{decimal_of, natural_of};
 ghost use Rattle.text_out.specs.Line.{line_of};
-ghost use Rattle.outside.specs.Marks.{lent_mark};
+ghost use Rattle.streams.specs.Marks.{lent_mark};
 ghost use Rattle.host_model.specs.Report.{cause_text, fault_text, mark_text, numbered};
 ghost use Rattle.run_report.specs.Summary.{conn_text, listening_line};
 
 use host_model::EndCause;
-use outside::{EnvelopeFault, MarkAt};
+use streams::{EnvelopeFault, MarkAt};
 use std::alloc::AllocError;
 use text_out::{decimal, hex};
 

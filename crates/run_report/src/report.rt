@@ -1,12 +1,12 @@
 //! The report of a run, which goes to a sink in pieces, so that its memory doesn't grow with the run.
 
 ghost use Rattle.std.specs.Prelude.{◌≡◌, ◌<◌, ℕ, [], ◌++◌, codes, length, take, MatchResult, OnOk};
-ghost use Rattle.outside.specs.Content.{told_more};
-ghost use Rattle.outside.specs.Taken.{TakesText};
+ghost use Rattle.streams.specs.Content.{told_more};
+ghost use Rattle.streams.specs.Taken.{TakesText};
 ghost use Rattle.text_out.specs.Hex.{hex_of};
 ghost use Rattle.text_out.specs.Line.{line_of};
 ghost use Rattle.host_model.specs.Report.{end_text, hex_or_dash, journal_lines, mark_text, numbered, report, tape_lines};
-ghost use Rattle.outside.specs.Marks.{lent_mark};
+ghost use Rattle.streams.specs.Marks.{lent_mark};
 ghost use Rattle.run_report.specs.Entries.{IsPlainEntry};
 ghost use Rattle.run_report.specs.Written.{outputs, ended_lines};
 ghost use Rattle.run_report.specs.Pieces.{HasReportCause};
@@ -16,7 +16,7 @@ use crate::fault::ReportFault;
 use crate::lines::{put_count, put_end, put_mark};
 use call_rules::Entry;
 use host_model::EndCause;
-use outside::{Bytes, MarkAt, Sink, Tape, write_all};
+use streams::{Bytes, MarkAt, Sink, Tape, write_all};
 use std::alloc::Global;
 use text_out::hex;
 

@@ -1,8 +1,8 @@
 //! The summary of what was served at a port, which goes to a sink: a line once connections are awaited, and the others at the end.
 
 ghost use Rattle.std.specs.Prelude.{◌≡◌, ◌<◌, [], ◌++◌, length, MatchResult, OnOk};
-ghost use Rattle.outside.specs.Content.{told_more};
-ghost use Rattle.outside.specs.Taken.{IsTakenInPart, TakesText};
+ghost use Rattle.streams.specs.Content.{told_more};
+ghost use Rattle.streams.specs.Taken.{IsTakenInPart, TakesText};
 ghost use Rattle.text_out.specs.Line.{line_of};
 ghost use Rattle.run_report.specs.Summary.{listening_line, conn_text, conn_lines, summary_lines};
 ghost use Rattle.run_report.specs.Pieces.{HasReportCause};
@@ -11,7 +11,7 @@ use crate::fault::ReportFault;
 use crate::lines::{put_conn, put_listening};
 use crate::report::{PIECE, flush, settle, write_count};
 use host_model::EndCause;
-use outside::Sink;
+use streams::Sink;
 use std::alloc::Global;
 
 /// Writes the line that tells at which port connections are awaited.

@@ -19,7 +19,7 @@ use Rattle.script_links.specs.declared.link.ScriptConn.{ScriptConn}
 use Rattle.script_links.specs.Kept.{plain_link, plain_links}
 use Rattle.script_links.specs.Shows.{transfers_in}
 use Rattle.script_links.specs.Followed.{AreLinksOf, LinkFollows, FollowsSoFar}
-use Rattle.outside.specs.declared.marks.Mark.{Mark}
+use Rattle.streams.specs.declared.marks.Mark.{Mark}
 use Rattle.host_model.specs.Marks.{marks_of}
 use Rattle.host_model.proofs.Lists.{nil-cons, cons_parts}
 use Rattle.script_model.specs.RestLines.{opened_in}

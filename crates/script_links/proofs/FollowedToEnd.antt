@@ -7,7 +7,7 @@ use Rattle.outside.specs.declared.answers.Ask.{Ask}
 use Rattle.outside.specs.declared.answers.Hint.TheVariants.{Opened, Over}
 use Rattle.outside.specs.declared.answers.Taken.{Taken}
 use Rattle.outside.specs.declared.answers.Taken.TheVariants.{Bytes, End, NotYet, Failed, NoMemory}
-use Rattle.outside.specs.declared.marks.Mark.TheVariants.{Opened as OpenedMark}
+use Rattle.streams.specs.declared.marks.Mark.TheVariants.{Opened as OpenedMark}
 use Rattle.outside.specs.Reading.{bytes_read}
 use Rattle.host_model.specs.Marks.{marks_of, input}
 use Rattle.host_model.specs.Conversation.{IsPrefix}

@@ -4,9 +4,9 @@ use Rattle.std.specs.List.{list_any}
 use Rattle.std.proofs.lemmas.Bool.{cases_eq, cases_lt, ltb-false}
 use Rattle.std.proofs.lemmas.List.{length-set}
 use Rattle.std.proofs.lemmas.Grind.{flat_map-append}
-use Rattle.outside.specs.declared.marks.Mark.{Mark}
-use Rattle.outside.specs.declared.marks.Mark.TheVariants.{Opened, Ended, ReadFailed}
-use Rattle.outside.specs.declared.answers.RestPlace.{RestPlace}
+use Rattle.streams.specs.declared.marks.Mark.{Mark}
+use Rattle.streams.specs.declared.marks.Mark.TheVariants.{Opened, Ended, ReadFailed}
+use Rattle.streams.specs.declared.rest_place.RestPlace.{RestPlace}
 use Rattle.host_model.specs.Marks.{connection_of, marks_of, input}
 use Rattle.host_model.specs.Conversation.{IsPrefix}
 use Rattle.machine_model.specs.OpenAtFronts.{opening_of, closing_of, marks_counted}

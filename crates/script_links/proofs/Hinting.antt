@@ -2,9 +2,9 @@
 use Rattle.std.proofs.Common.{◌≡◌, ℕ, zero, suc, ◌+◌, ◌<◌, ◌^◌, Bool, true, false, ◌&&◌, ◌||◌, not, if◌then◌else◌, Some, List, [], ◌∷◌, ◌++◌, length, replicate, Result, Ok, refl, sym, ap, ◌∙◌, subst, arith, true≢false, append_assoc}
 use Rattle.std.specs.List.{list_any}
 use Rattle.std.proofs.lemmas.List.{append-nil}
-use Rattle.outside.specs.declared.streams.Failed.{Failed}
-use Rattle.outside.specs.declared.marks.Mark.{Mark}
-use Rattle.outside.specs.declared.marks.Mark.TheVariants.{Opened as OpenedMark}
+use Rattle.streams.specs.declared.streams.Failed.{Failed}
+use Rattle.streams.specs.declared.marks.Mark.{Mark}
+use Rattle.streams.specs.declared.marks.Mark.TheVariants.{Opened as OpenedMark}
 use Rattle.outside.specs.declared.answers.Ask.{Ask}
 use Rattle.outside.specs.declared.answers.Hint.{Hint}
 use Rattle.outside.specs.declared.answers.Hint.TheVariants.{Opened, Readable, Writable, Woken, Over}
@@ -18,7 +18,7 @@ use Rattle.script_links.specs.declared.step.Came.TheVariants.{Gives, Waits, Goes
 use Rattle.script_links.specs.ServedScript.{PlainLink, ServedScript, link_at, with_link, is_coming, is_open_stage, is_open_at}
 use Rattle.script_links.specs.Plain.{Next, with_opening, with_arrival, with_finish, came_of, after_step, may_rest, is_open_link, has_unread, next_so, next_from, next_of_blocked, next_of, hint_of}
 use Rattle.script_links.specs.Shown.{links_told, arrived_of}
-use Rattle.outside.specs.declared.answers.RestPlace.{RestPlace}
+use Rattle.streams.specs.declared.rest_place.RestPlace.{RestPlace}
 use Rattle.script_links.specs.Kept.{IsOverAtEnd}
 use Rattle.script_links.proofs.Going.{goes_on, after_keeps}
 use Rattle.script_links.proofs.Connected.{open_is_there, coming_is_there, own_changed, other_same}

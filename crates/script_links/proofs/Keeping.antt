@@ -7,7 +7,7 @@ use Rattle.std.proofs.lemmas.List.{length-set}
 use Rattle.std.proofs.lemmas.List.Sums.{sum_by-set, sum_by-cons}
 use Rattle.script_links.specs.declared.link.LinkStage.{LinkStage}
 use Rattle.script_links.specs.declared.link.LinkStage.TheVariants.{Coming, Open, Ended, Closed}
-use Rattle.outside.specs.declared.answers.RestPlace.{RestPlace}
+use Rattle.streams.specs.declared.rest_place.RestPlace.{RestPlace}
 use Rattle.script_model.specs.ScriptLines.{PlanRule}
 use Rattle.script_links.specs.declared.step.Step.{Step}
 use Rattle.script_links.specs.ServedScript.{PlainLink, ServedScript, no_link, link_at, with_link, is_coming, is_open_stage, is_open_at, is_fit_for_end, marks_owed_at, marks_owed, lets_some, has_bytes, is_sound_link}

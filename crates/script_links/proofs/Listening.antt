@@ -1,7 +1,7 @@
 -- Links over a script that listen answer as links do.
 use Rattle.std.proofs.Common.{◌≡◌, ℕ, suc, ◌<◌, ◌≤◌, Bool, true, false, Result, Ok, Err, Some, List, [], length, refl, sym, ap, arith, true≢false, append-nil}
-use Rattle.outside.specs.Cause.{Rose}
-use Rattle.outside.specs.declared.streams.Failed.{Failed}
+use Rattle.streams.specs.Cause.{Rose}
+use Rattle.streams.specs.declared.streams.Failed.{Failed}
 use Rattle.outside.specs.declared.answers.Ask.{Ask}
 use Rattle.outside.specs.declared.answers.Hint.{Hint}
 use Rattle.outside.specs.declared.answers.Hint.TheVariants.{Opened, Readable, Writable, Woken, Over}

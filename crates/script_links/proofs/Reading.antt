@@ -5,7 +5,7 @@ use Rattle.std.proofs.lemmas.Bool.{and_parts, ltb-true, ltb-false, leb-true}
 use Rattle.std.proofs.lemmas.List.{append-nil, take_all, take-append-drop}
 use Rattle.std.proofs.lemmas.Option.{none-some, same_Some}
 use Rattle.std.proofs.Math.Dec.{leb-suc-suc}
-use Rattle.outside.specs.declared.marks.Mark.TheVariants.{Read, Ended as EndedMark, ReadFailed}
+use Rattle.streams.specs.declared.marks.Mark.TheVariants.{Read, Ended as EndedMark, ReadFailed}
 use Rattle.outside.specs.declared.answers.Taken.{Taken}
 use Rattle.outside.specs.declared.answers.Taken.TheVariants.{Bytes, End, NotYet, Failed, NoMemory}
 use Rattle.outside.specs.LinksState.{Arrived, nothing_arrived}

@@ -1,7 +1,7 @@
 -- What single steps come to, by the tests that decide it.
 use Rattle.std.proofs.Common.{◌≡◌, ℕ, suc, ◌+◌, ◌<◌, ◌≤◌, Bool, true, false, not, List, [], ◌∷◌, ◌++◌, length, drop, refl, sym, ap, ◌∙◌, if◌then◌else◌}
 use Rattle.std.specs.List.{list_any}
-use Rattle.outside.specs.declared.marks.Mark.TheVariants.{Opened as OpenedMark}
+use Rattle.streams.specs.declared.marks.Mark.TheVariants.{Opened as OpenedMark}
 use Rattle.outside.specs.declared.answers.Ask.{Ask}
 use Rattle.outside.specs.declared.answers.Hint.TheVariants.{Opened, Readable, Over}
 use Rattle.script_model.specs.Playing.{finishes, faults}

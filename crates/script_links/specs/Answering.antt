@@ -1,6 +1,6 @@
 -- Pipes in memory, of whose reads and writes some may be to fail.
 use Rattle.std.specs.Prelude.{ℕ, Bool, false, ◌||◌, if◌then◌else◌, List, [], ◌++◌, take, drop, Option, None, Some}
-use Rattle.outside.specs.Cause.{next_count}
+use Rattle.streams.specs.Cause.{next_count}
 use Rattle.outside.specs.Pipes.{PipeState, is_end}
 use Rattle.outside.specs.Calling.{PastPipe}
 use Rattle.script_links.specs.Failing.{CountedCalls, uncalled, fails_next, after_counting}

@@ -1,6 +1,6 @@
 -- A binder in memory, and what a call of it leaves.
 use Rattle.std.specs.Prelude.{ℕ, List, [], ◌∷◌, ◌++◌, if◌then◌else◌}
-use Rattle.outside.specs.Cause.{next_count, next_if_faulty}
+use Rattle.streams.specs.Cause.{next_count, next_if_faulty}
 use Rattle.outside.specs.Binding.{PastLinks}
 use Rattle.outside.specs.Calling.{PastPipe, next_if_either}
 use Rattle.script_model.specs.ScriptLines.{ScriptPlan}

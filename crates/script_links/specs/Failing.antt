@@ -1,7 +1,7 @@
 -- Calls on links that are to fail, by their numbers.
 use Rattle.std.specs.Prelude.{ℕ, Bool, ◌&&◌, nat_eq, if◌then◌else◌, List, [], Option, None, Some}
-use Rattle.outside.specs.Cause.{next_count}
-use Rattle.outside.specs.Memory.{is_listed}
+use Rattle.streams.specs.Cause.{next_count}
+use Rattle.streams.specs.Memory.{is_listed}
 
 -- Calls of one kind: the numbers of those that are to fail, counted from 0, and the number of the next one.
 pub record CountedCalls : Type 0 where

@@ -1,7 +1,7 @@
 -- What links over a script have done of it, so far and once all is over.
 use Rattle.std.specs.Prelude.{◌≡◌, ℕ, min, ◌+◌, ◌<◌, ◌≤◌, true, false, Some, List, [], ◌∷◌, ◌++◌, map, filter, length, drop, slice_get}
-use Rattle.outside.specs.declared.marks.Mark.{Mark}
-use Rattle.outside.specs.declared.answers.RestPlace.{RestPlace}
+use Rattle.streams.specs.declared.marks.Mark.{Mark}
+use Rattle.streams.specs.declared.rest_place.RestPlace.{RestPlace}
 use Rattle.host_model.specs.Marks.{marks_of, input}
 use Rattle.host_model.specs.Conversation.{IsPrefix}
 use Rattle.machine_model.specs.OpenAtFronts.{opening_of, closing_of, marks_counted}

@@ -1,6 +1,6 @@
 -- Links over a script that listen, of whose calls some may be to fail.
 use Rattle.std.specs.Prelude.{ℕ, Bool, List, Some, if◌then◌else◌}
-use Rattle.outside.specs.Cause.{next_count}
+use Rattle.streams.specs.Cause.{next_count}
 use Rattle.outside.specs.declared.answers.Ask.{Ask}
 use Rattle.outside.specs.declared.answers.Taken.{Taken}
 use Rattle.outside.specs.declared.answers.Taken.TheVariants.{Failed}

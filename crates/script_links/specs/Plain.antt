@@ -1,8 +1,8 @@
 -- What links over a script do at each call, as a plain function of what is kept.
 use Rattle.std.specs.Prelude.{◌≡◌, ◌≢◌, ℕ, suc, ◌-◌, ◌+◌, Bool, true, false, ◌&&◌, ◌||◌, not, min, nat_lt, nat_le, if◌then◌else◌, Option, None, Some, List, [], ◌∷◌, ◌++◌, length, take, drop, slice_get}
 use Rattle.std.specs.List.{list_any}
-use Rattle.outside.specs.Cause.{next_count}
-use Rattle.outside.specs.declared.marks.Mark.TheVariants.{Opened as OpenedMark, Read, Ended as EndedMark, Wrote, ReadFailed, WriteFailed, Closed as ClosedMark}
+use Rattle.streams.specs.Cause.{next_count}
+use Rattle.streams.specs.declared.marks.Mark.TheVariants.{Opened as OpenedMark, Read, Ended as EndedMark, Wrote, ReadFailed, WriteFailed, Closed as ClosedMark}
 use Rattle.outside.specs.declared.answers.Ask.{Ask}
 use Rattle.outside.specs.declared.answers.Hint.{Hint}
 use Rattle.outside.specs.declared.answers.Hint.TheVariants.{Opened, Readable, Writable, Woken, Over}

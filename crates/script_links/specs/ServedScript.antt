@@ -1,8 +1,8 @@
 -- What is kept of a script that links serve: of each connection what the script still gives it, and what has happened.
 use Rattle.std.specs.Prelude.{ℕ, ◌-◌, ◌^◌, Bool, true, false, ◌&&◌, nat_lt, nat_le, Option, None, List, [], slice_index_or, slice_set, length, sum_by}
 use Rattle.std.specs.List.{list_all}
-use Rattle.outside.specs.declared.marks.Mark.{Mark}
-use Rattle.outside.specs.declared.answers.RestPlace.{RestPlace}
+use Rattle.streams.specs.declared.marks.Mark.{Mark}
+use Rattle.streams.specs.declared.rest_place.RestPlace.{RestPlace}
 use Rattle.script_model.specs.ScriptLines.{PlanRule, takes_most, blocks, fails}
 use Rattle.script_model.specs.Playing.{InputFinish}
 use Rattle.script_links.specs.declared.link.LinkStage.{LinkStage}

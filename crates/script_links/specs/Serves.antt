@@ -1,8 +1,8 @@
 -- What a loop does that serves its links: how much it lends and offers, and how it stands where links rest.
 use Rattle.std.specs.Prelude.{◌≡◌, ℕ, true, min, Some, List, [], ◌∷◌, ◌++◌, length, take, slice_get}
-use Rattle.outside.specs.declared.marks.Mark.{Mark}
-use Rattle.outside.specs.declared.marks.Mark.TheVariants.{Read, Wrote}
-use Rattle.outside.specs.declared.answers.RestPlace.{RestPlace}
+use Rattle.streams.specs.declared.marks.Mark.{Mark}
+use Rattle.streams.specs.declared.marks.Mark.TheVariants.{Read, Wrote}
+use Rattle.streams.specs.declared.rest_place.RestPlace.{RestPlace}
 use Rattle.host_model.specs.Frames.{Frames}
 use Rattle.host_model.specs.Marks.{marks_of, input, output}
 use Rattle.host_model.specs.Journal.{JournalEntry, entries_of}

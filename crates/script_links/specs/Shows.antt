@@ -1,7 +1,7 @@
 -- What each mark of links over a script shows: that what happened is as the script says.
 use Rattle.std.specs.Prelude.{◌≡◌, ℕ, ◌+◌, ◌-◌, ◌<◌, true, min, Option, None, Some, List, [], ◌∷◌, ◌++◌, length, slice_get}
-use Rattle.outside.specs.declared.marks.Mark.{Mark}
-use Rattle.outside.specs.declared.marks.Mark.TheVariants.{Opened, Read, Ended, Wrote, ReadFailed, WriteFailed, Closed}
+use Rattle.streams.specs.declared.marks.Mark.{Mark}
+use Rattle.streams.specs.declared.marks.Mark.TheVariants.{Opened, Read, Ended, Wrote, ReadFailed, WriteFailed, Closed}
 use Rattle.host_model.specs.Marks.{marks_of, input}
 use Rattle.script_model.specs.Arrival.{bytes_of_pieces, ends_from}
 use Rattle.script_model.specs.Feeding.{piece_end}

@@ -1,7 +1,7 @@
 //! A binder in memory.
 
 ghost use Rattle.std.specs.Prelude.{◌≡◌, ◌≢◌, ◌↔◌, ◌≤◌, true, false, Some, [], IfOk, IsSome, IsTrue, MatchResult, Err};
-ghost use Rattle.outside.specs.Cause.{Rose, next_if_faulty};
+ghost use Rattle.streams.specs.Cause.{Rose, next_if_faulty};
 ghost use Rattle.outside.specs.declared.binder.BindFail.TheVariants.{Failed};
 ghost use Rattle.outside.specs.Binding.{StartListening, HasBindCause, told_past};
 ghost use Rattle.outside.specs.Calling.{StartsCalling, told_called, next_if_either};
@@ -22,7 +22,8 @@ use crate::mem_pipe::{MemPipe, PipeReply, hung_up};
 use crate::past::{PastChain, PastRow};
 use crate::serving::ScriptServing;
 use lists::Listed;
-use outside::{BindFail, Binder, Tape};
+use outside::{BindFail, Binder};
+use streams::Tape;
 use script_text::Script;
 use std::alloc::{AllocError, Global};
 use std::marker::Model;

@@ -16,7 +16,7 @@ use crate::link::{LinkStage, ScriptConn};
 use crate::mark_log::MarkLog;
 use crate::serving::ScriptServing;
 use crate::step::Step;
-use outside::{Bytes, RestPlace};
+use streams::{Bytes, RestPlace};
 use script_text::laws::scripts_are_sound;
 use script_text::{RuleList, Script, ScriptLine};
 use std::alloc::{AllocError, Global};

@@ -2,7 +2,7 @@
 
 ghost use Rattle.std.specs.Prelude.{◌≡◌, IfOk};
 
-use outside::Bytes;
+use streams::Bytes;
 use script_text::{RuleList, RuleLists, Script, ScriptLine, ScriptLines};
 use std::alloc::{AllocError, Global};
 

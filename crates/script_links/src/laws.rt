@@ -1,8 +1,8 @@
 //! A law of links over a script, the contract of a function that does nothing.
 
 ghost use Rattle.std.specs.Prelude.{ℕ, List};
-ghost use Rattle.outside.specs.declared.marks.Mark.{Mark};
-ghost use Rattle.outside.specs.declared.answers.RestPlace.{RestPlace};
+ghost use Rattle.streams.specs.declared.marks.Mark.{Mark};
+ghost use Rattle.streams.specs.declared.rest_place.RestPlace.{RestPlace};
 ghost use Rattle.host_model.specs.Journal.{JournalEntry};
 ghost use Rattle.host_model.specs.DeskRules.{DeskRules};
 ghost use Rattle.script_model.specs.ScriptLines.{ScriptPlan};

@@ -6,7 +6,8 @@ ghost use Rattle.script_links.specs.Plain.{oldest_of, shown_finish, with_arrival
 ghost use Rattle.script_links.specs.Kept.{plain_link_finish, plain_link};
 
 use limits::MOST_READ;
-use outside::{Bytes, Taken};
+use outside::Taken;
+use streams::Bytes;
 use script_text::WriteRule;
 use std::alloc::AllocError;
 

@@ -1,9 +1,9 @@
 //! A tape that grows, and how many marks stand on it.
 
 ghost use Rattle.std.specs.Prelude.{◌≡◌, ◌+◌, ◌<◌, ◌≤◌, [], ◌∷◌, ◌++◌, length, OnOk};
-ghost use Rattle.outside.specs.Marks.{lent_mark, lent_bytes};
+ghost use Rattle.streams.specs.Marks.{lent_mark, lent_bytes};
 
-use outside::{Cursor, MarkAt, Tape, TapeLog};
+use streams::{Cursor, MarkAt, Tape, TapeLog};
 use std::alloc::{AllocError, Global};
 use std::marker::Model;
 
@@ -20,7 +20,7 @@ pub struct MarkLog {
 
 impl Model for MarkLog {
     ghost use Rattle.std.specs.Prelude.{◌≡◌, ◌≤◌, length};
-    ghost use Rattle.outside.specs.Rows.{TapeView};
+    ghost use Rattle.streams.specs.Rows.{TapeView};
 
     ghost Value = { TapeView };
 

@@ -8,7 +8,8 @@ ghost use Rattle.script_links.specs.Answering.{fresh_mem_pipe, mem_pipe_told, pa
 
 use crate::call_list::CallList;
 use crate::called::{CalledChain, CalledRow};
-use outside::{Failed, Pipe, Sink, Source};
+use outside::Pipe;
+use streams::{Failed, Sink, Source};
 use std::alloc::Global;
 use std::marker::Model;
 

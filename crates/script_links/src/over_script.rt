@@ -14,7 +14,8 @@ ghost use Rattle.script_links.specs.Followed.{LinksPlan, plan_of_links, AreLinks
 
 use crate::serving::ScriptServing;
 use crate::step::Came;
-use outside::{Ask, Bell, Cursor, Failed, Hint, Links, Taken, Tape};
+use outside::{Ask, Bell, Hint, Links, Taken};
+use streams::{Cursor, Failed, Tape};
 use script_text::Script;
 use std::alloc::{AllocError, Global};
 use std::marker::Model;

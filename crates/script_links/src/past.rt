@@ -1,6 +1,6 @@
 //! Links that came back.
 
-use outside::Tape;
+use streams::Tape;
 
 /// What is kept of links that came back.
 #[derive(Drop)]

@@ -10,7 +10,8 @@ use crate::connections::Connections;
 use crate::link::LinkInputEnd;
 use crate::mark_log::MarkLog;
 use crate::step::{Came, Step};
-use outside::{Ask, Hint, MarkAt, RestPlace};
+use outside::{Ask, Hint};
+use streams::{MarkAt, RestPlace};
 use std::alloc::Global;
 use std::collections::VecDeque;
 

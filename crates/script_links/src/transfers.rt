@@ -8,7 +8,8 @@ ghost use Rattle.script_links.specs.Plain.{left_by_read, left_by_write, left_by_
 ghost use Rattle.script_links.specs.Kept.{served_of, IsKeptServing, HasEndRoom, HasMarkRoom};
 
 use crate::serving::ScriptServing;
-use outside::{MarkAt, Taken};
+use outside::Taken;
+use streams::MarkAt;
 use std::alloc::AllocError;
 
 impl ScriptServing {

@@ -1,8 +1,8 @@
 -- The causes of a run are told by its tape, its journal, and the lines of its connections.
 use Rattle.std.proofs.Common.{◌≡◌, ℕ, ℤ, pos, suc, ◌+◌, ◌<◌, ◌^◌, ◌==◌, if◌then◌else◌, Some, List, [], ◌∷◌, ◌++◌, length, codes, get_or, slice_get, refl, sym, ap, ◌∙◌, subst, arith, append_assoc}
-use Rattle.outside.specs.declared.outcomes.EnvelopeFault.{EnvelopeFault}
-use Rattle.outside.specs.declared.outcomes.EnvelopeFault.TheVariants.{Short}
-use Rattle.outside.specs.declared.marks.Mark.{Mark}
+use Rattle.streams.specs.declared.outcomes.EnvelopeFault.{EnvelopeFault}
+use Rattle.streams.specs.declared.outcomes.EnvelopeFault.TheVariants.{Short}
+use Rattle.streams.specs.declared.marks.Mark.{Mark}
 use Rattle.host_model.specs.declared.cause.EndCause.{EndCause}
 use Rattle.host_model.specs.declared.cause.EndCause.TheVariants.{End, Cut, SizeFault, Envelope, ReadFault, WriteFault, NoMemory, Stopped}
 use Rattle.host_model.specs.Marks.{marks_of, input, output}

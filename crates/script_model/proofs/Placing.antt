@@ -1,7 +1,7 @@
 -- Where a rehearsal comes to its end, and at each line of rest, there is a place on the tape; so a rehearsal is fed by its script.
 use Rattle.std.proofs.Common.{◌≡◌, ℕ, ◌^◌, ◌<◌, ◌≤◌, Option, None, Some, List, [], ◌∷◌, ◌++◌, map, length, refl, sym, ap, ◌∙◌, subst, inl, inr, ⊎_elim, arith, append-nil}
 use Rattle.std.proofs.lemmas.Option.{none-some}
-use Rattle.outside.specs.declared.marks.Mark.TheVariants.{Ended, ReadFailed}
+use Rattle.streams.specs.declared.marks.Mark.TheVariants.{Ended, ReadFailed}
 use Rattle.host_model.specs.declared.key.Key.{Key}
 use Rattle.host_model.specs.declared.cause.EndCause.{EndCause}
 use Rattle.host_model.specs.Journal.{ServiceRules}

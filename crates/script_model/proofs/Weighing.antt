@@ -1,8 +1,8 @@
 -- What is left to do in a rehearsal, weighed: each event that its moves tell takes something off the machine's weight.
 use Rattle.std.proofs.Common.{◌≡◌, ℕ, zero, suc, ◌+◌, ◌*◌, ◌-◌, ◌<◌, ◌≤◌, ◌⊎◌, Bool, true, false, ◌&&◌, not, ◌==◌, nat_lt, nat_le, if◌then◌else◌, Option, None, Some, List, [], ◌∷◌, ◌++◌, length, drop, slice_get, refl, ap, ◌∙◌, inl, inr, arith, length-append}
 use Rattle.std.proofs.lemmas.Bool.{and_parts, ltb-true, not-true, cases_eq}
-use Rattle.outside.specs.declared.outcomes.Settled.{Settled}
-use Rattle.outside.specs.declared.outcomes.Settled.TheVariants.{Reply, Nothing, Close, NoMemory as Lack}
+use Rattle.streams.specs.declared.outcomes.Settled.{Settled}
+use Rattle.streams.specs.declared.outcomes.Settled.TheVariants.{Reply, Nothing, Close, NoMemory as Lack}
 use Rattle.host_model.specs.declared.key.Key.{Key}
 use Rattle.host_model.specs.declared.cause.EndCause.{EndCause}
 use Rattle.host_model.specs.declared.cause.EndCause.TheVariants.{ReadFault, WriteFault}

@@ -1,7 +1,7 @@
 -- A run that a script feeds: what it may read and when, how its writes go, and where it rests.
 use Rattle.std.specs.Prelude.{◌≡◌, ℕ, true, List, [], ◌∷◌, ◌++◌, map}
-use Rattle.outside.specs.declared.marks.Mark.{Mark}
-use Rattle.outside.specs.declared.marks.Mark.TheVariants.{Ended, ReadFailed}
+use Rattle.streams.specs.declared.marks.Mark.{Mark}
+use Rattle.streams.specs.declared.marks.Mark.TheVariants.{Ended, ReadFailed}
 use Rattle.host_model.specs.Marks.{marks_of, input}
 use Rattle.host_model.specs.Journal.{JournalEntry, entries_of}
 use Rattle.host_model.specs.DeskRules.{DeskRules}

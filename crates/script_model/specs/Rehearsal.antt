@@ -1,7 +1,7 @@
 -- A run on bytes that arrive in pieces, and its report. A desk, services and causes are given, so that this stands for any service.
 use Rattle.std.specs.Prelude.{◌≡◌, ◌≢◌, ◌⊎◌, ℕ, Bool, true, false, List, [], ◌∷◌, codes, Some, slice_get}
 use Rattle.std.specs.List.{AllByRecursion}
-use Rattle.outside.specs.declared.marks.Mark.{Mark}
+use Rattle.streams.specs.declared.marks.Mark.{Mark}
 use Rattle.host_model.specs.declared.cause.EndCause.{EndCause}
 use Rattle.host_model.specs.declared.cause.EndCause.TheVariants.{End, Cut, SizeFault, Envelope, NoMemory}
 use Rattle.host_model.specs.Marks.{marks_of, input}

@@ -1,6 +1,6 @@
 -- Scripts of a tiny desk, for examples.
 use Rattle.std.specs.Prelude.{◌≡◌, ℕ, true, ◌==◌, if◌then◌else◌, Option, Some, List, [], ◌∷◌, ◌++◌, map, option_map}
-use Rattle.outside.specs.declared.marks.Mark.{Mark}
+use Rattle.streams.specs.declared.marks.Mark.{Mark}
 use Rattle.host_model.specs.declared.cause.EndCause.{EndCause}
 use Rattle.host_model.specs.Journal.{JournalEntry}
 use Rattle.host_model.specs.TinyDesk.{tiny_desk, counting, size_of_one}

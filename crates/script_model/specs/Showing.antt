@@ -1,6 +1,6 @@
 -- A rehearsal told by what shows of it: its tape, its journal and the causes of its connections.
 use Rattle.std.specs.Prelude.{◌≡◌, ℕ, ◌<◌, List}
-use Rattle.outside.specs.declared.marks.Mark.{Mark}
+use Rattle.streams.specs.declared.marks.Mark.{Mark}
 use Rattle.host_model.specs.declared.cause.EndCause.{EndCause}
 use Rattle.host_model.specs.Journal.{JournalEntry, ServiceRules}
 use Rattle.host_model.specs.DeskRules.{DeskRules}

@@ -1,7 +1,7 @@
 -- Which runs the report of a script's run tells.
 use Rattle.std.specs.Prelude.{◌≡◌, ℕ, ◌<◌, List}
 use Rattle.limits.specs.Limits.{most_connections}
-use Rattle.outside.specs.declared.marks.Mark.{Mark}
+use Rattle.streams.specs.declared.marks.Mark.{Mark}
 use Rattle.host_model.specs.declared.cause.EndCause.{EndCause}
 use Rattle.host_model.specs.Journal.{JournalEntry, ServiceRules}
 use Rattle.host_model.specs.DeskRules.{DeskRules}

@@ -1,7 +1,7 @@
 -- How much each write of a connection takes, where rules govern writes.
 use Rattle.std.specs.Prelude.{◌≡◌, ℕ, ◌+◌, ◌<◌, Option, None, Some, List, [], ◌∷◌, ◌++◌, length, take}
-use Rattle.outside.specs.declared.marks.Mark.{Mark}
-use Rattle.outside.specs.declared.marks.Mark.TheVariants.{Wrote, WriteFailed}
+use Rattle.streams.specs.declared.marks.Mark.{Mark}
+use Rattle.streams.specs.declared.marks.Mark.TheVariants.{Wrote, WriteFailed}
 use Rattle.host_model.specs.Frames.{Frames}
 use Rattle.host_model.specs.Marks.{marks_of, input, output}
 use Rattle.host_model.specs.Journal.{JournalEntry}

@@ -2,7 +2,7 @@
 //! a signed number of four bytes, hence the bound on the longest payload.
 
 ghost use Rattle.std.specs.Prelude.{◌≡◌, ◌≢◌, ℕ, ◌<◌, ◌^◌, Some, List, ◌++◌, slice_get};
-ghost use Rattle.outside.specs.declared.marks.Mark.{Mark};
+ghost use Rattle.streams.specs.declared.marks.Mark.{Mark};
 ghost use Rattle.host_model.specs.declared.cause.EndCause.{EndCause};
 ghost use Rattle.host_model.specs.declared.cause.EndCause.TheVariants.{End, NoMemory, Stopped};
 ghost use Rattle.host_model.specs.Conversation.{Conversation};

@@ -2,8 +2,8 @@
 
 ghost use Rattle.std.specs.Prelude.{◌≡◌, ℕ, None, List, [], ◌∷◌, ◌++◌};
 ghost use Rattle.host_model.specs.declared.cause.EndCause.{EndCause};
-ghost use Rattle.outside.specs.declared.marks.Mark.{Mark};
-ghost use Rattle.outside.specs.declared.marks.Mark.TheVariants.{Opened, Read, Ended, Wrote, ReadFailed, WriteFailed, Closed};
+ghost use Rattle.streams.specs.declared.marks.Mark.{Mark};
+ghost use Rattle.streams.specs.declared.marks.Mark.TheVariants.{Opened, Read, Ended, Wrote, ReadFailed, WriteFailed, Closed};
 ghost use Rattle.host_model.specs.declared.cause.EndCause.TheVariants.{End, Cut, ReadFault, WriteFault, NoMemory};
 ghost use Rattle.host_model.specs.Journal.{JournalEntry};
 ghost use Rattle.host_model.specs.TinyDesk.{tiny_desk, counting, tiny_entry, size_of_one};

@@ -1,7 +1,7 @@
 //! Laws of scripts, each the contract of a function that does nothing.
 
 ghost use Rattle.std.specs.Prelude.{◌≡◌, ℕ, ◌<◌, ◌^◌, true, List, [], ◌∷◌};
-ghost use Rattle.outside.specs.declared.marks.Mark.{Mark};
+ghost use Rattle.streams.specs.declared.marks.Mark.{Mark};
 ghost use Rattle.host_model.specs.declared.cause.EndCause.{EndCause};
 ghost use Rattle.host_model.specs.Journal.{JournalEntry, ServiceRules, entries_of};
 ghost use Rattle.host_model.specs.DeskRules.{DeskRules};

@@ -1,7 +1,7 @@
 //! A rehearsal told by what shows of it, each law the contract of a function that does nothing.
 
 ghost use Rattle.std.specs.Prelude.{◌≡◌, ◌≢◌, ℕ, ◌<◌, ◌≤◌, ◌^◌, Some, List, length, slice_get};
-ghost use Rattle.outside.specs.declared.marks.Mark.{Mark};
+ghost use Rattle.streams.specs.declared.marks.Mark.{Mark};
 ghost use Rattle.host_model.specs.declared.cause.EndCause.{EndCause};
 ghost use Rattle.host_model.specs.declared.cause.EndCause.TheVariants.{NoMemory};
 ghost use Rattle.host_model.specs.Journal.{JournalEntry, ServiceRules};

@@ -1,7 +1,7 @@
 //! The lines and rules of a script.
 
 use lists::Listed;
-use outside::Bytes;
+use streams::Bytes;
 
 /// One line that is no rule.
 #[derive(Drop)]

@@ -8,7 +8,7 @@ ghost use Rattle.script_text.specs.Drafts.{plain_said};
 use crate::digits::bytes_of_pairs;
 use crate::lines::{ScriptLine, WriteRule};
 use memchr::memchr;
-use outside::Bytes;
+use streams::Bytes;
 use std::alloc::{AllocError, Global};
 
 /// What a line says: a line of the run, or one more rule of a connection.

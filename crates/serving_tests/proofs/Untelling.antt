@@ -1,8 +1,8 @@
 -- Links that tell less of a script answer as links do.
 use Rattle.std.proofs.Common.{◌≡◌, ℕ, ◌≤◌, Bool, true, false, ◌||◌, Result, Ok, Err, List, refl, arith}
-use Rattle.outside.specs.Cause.{Rose}
-use Rattle.outside.proofs.Causes.{on_ok}
-use Rattle.outside.specs.declared.streams.Failed.{Failed}
+use Rattle.streams.specs.Cause.{Rose}
+use Rattle.streams.proofs.Causes.{on_ok}
+use Rattle.streams.specs.declared.streams.Failed.{Failed}
 use Rattle.outside.specs.declared.answers.Ask.{Ask}
 use Rattle.outside.specs.declared.answers.Hint.{Hint}
 use Rattle.outside.specs.declared.answers.Hint.TheVariants.{Opened, Readable, Writable, Woken, Over}

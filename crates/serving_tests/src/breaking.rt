@@ -5,7 +5,8 @@ ghost use Rattle.outside.specs.Opening.{AreFreshLinks};
 ghost use Rattle.script_links.specs.Shown.{links_told};
 ghost use Rattle.serving_tests.specs.Untold.{untold};
 
-use outside::{Ask, Failed, Hint, Links, Taken};
+use outside::{Ask, Hint, Links, Taken};
+use streams::Failed;
 use script_links::{ScriptBell, ScriptLinks};
 use std::alloc::{AllocError, Global};
 use std::sync::Wait;

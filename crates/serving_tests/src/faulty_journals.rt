@@ -4,7 +4,7 @@ ghost use Rattle.std.specs.Prelude.{◌≡◌, [], false};
 
 use call_rules::{Entry, Journal};
 use journal_text::ListJournal;
-use outside::Failed;
+use streams::Failed;
 use run_report::ReportedJournal;
 use std::alloc::{AllocError, Global};
 use std::marker::Model;

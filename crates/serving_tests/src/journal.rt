@@ -3,7 +3,7 @@
 ghost use Rattle.std.specs.Prelude.{◌≡◌, false};
 
 use call_rules::{Entry, Journal, Key};
-use outside::Failed;
+use streams::Failed;
 use std::alloc::{AllocError, Global};
 
 /// A journal that keeps the keys of its entries, tells none of them, and fails at the append of this number and after it.

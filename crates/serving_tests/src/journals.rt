@@ -6,7 +6,7 @@ ghost use Rattle.call_rules.specs.PlainCalls.{IsPlainCall, IsPlainAnswer};
 use crate::entries::{long_ping, ping};
 use call_rules::{Entry, Journal};
 use journal_text::{ListJournal, SegmentJournal, SinkJournal, SpoolJournal, put_entry};
-use outside::MemSink;
+use streams::MemSink;
 use std::alloc::{AllocError, Global};
 use std::test::Fail;
 use text_out::decimal;

@@ -17,7 +17,7 @@ use host_model::EndCause;
 use host_model::plain::{PlainEntry, marks_of, output};
 use house_handlers::Mirror;
 use machine_model::plain::{PlainCell, PlainConn};
-use outside::{Bytes, Mark, MarkAt, Tape};
+use streams::{Bytes, Mark, MarkAt, Tape};
 use processor::Office;
 use run_report::ReportedJournal;
 use script_text::laws::scripts_are_sound;

@@ -4,7 +4,7 @@ ghost use Rattle.std.specs.Prelude.{◌≤◌};
 
 use crate::running::{NEVER, Run, served};
 use conn_table::Outcome;
-use outside::{Cursor, MarkAt};
+use streams::{Cursor, MarkAt};
 use std::alloc::{AllocError, Global};
 use std::sync::Wait;
 use std::test::Fail;

@@ -5,7 +5,7 @@ ghost use Rattle.std.specs.Prelude.{◌≡◌, ◌<◌, ◌^◌};
 use host_model::EndCause;
 use host_model::plain::{Decided, PlainDesk, PlainServices};
 use machine_model::plain::{PlainApplyResult, PlainCell, PlainConnEvent, PlainEvent, run, start};
-use outside::Bytes;
+use streams::Bytes;
 use std::alloc::{AllocError, Global};
 
 // A desk with one reply.

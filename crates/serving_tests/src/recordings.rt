@@ -10,7 +10,7 @@ use conn_table::Limits;
 use envelope::Protocol;
 use house_handlers::Mirror;
 use journal_text::put_entry;
-use outside::{MemSink, MemSource};
+use streams::{MemSink, MemSource};
 use processor::Office;
 use recorded_runs::ServingFault::{self, JournalFault, WriteFault};
 use recorded_runs::answer_recorded;

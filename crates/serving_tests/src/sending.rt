@@ -2,7 +2,8 @@
 
 use crate::echo::{ASK, connected};
 use net_links::{NetBinder, NetLinks};
-use outside::{Binder, Failed, Hint, Links, Taken};
+use outside::{Binder, Hint, Links, Taken};
+use streams::Failed;
 use std::alloc::{AllocError, Global};
 use std::io::Read;
 use std::net::{Net, Shutdown, TcpStream};

@@ -1,6 +1,6 @@
 -- What a call means by how it ends.
 use Rattle.std.proofs.Common.{◌≡◌, inl, inr, ℕ, List, Option, None, Some, Result, Ok, Err, sym, subst}
-use Rattle.outside.specs.Files.{File}
+use Rattle.streams.specs.Files.{File}
 use Rattle.schema.specs.PlainSchema.{PlainSchema}
 use Rattle.idl_check.specs.declared.refusal.NoSchema.{NoSchema}
 use Rattle.idl_check.specs.declared.refusal.NoSchema.TheVariants as reasons

@@ -1,8 +1,8 @@
 -- What a check means by how it ends.
 use Rattle.std.proofs.Common.{◌≡◌, inl, inr, ℕ, List, Option, refl, sym, ap, ◌∙◌, subst}
-use Rattle.outside.specs.Content.{told_more}
-use Rattle.outside.specs.Files.{File}
-use Rattle.outside.specs.Taken.{IsTakenInPart}
+use Rattle.streams.specs.Content.{told_more}
+use Rattle.streams.specs.Files.{File}
+use Rattle.streams.specs.Taken.{IsTakenInPart}
 use Rattle.idl_check.specs.declared.refusal.NoSchema.{NoSchema}
 use Rattle.idl_check.specs.declared.refusal.NoSchema.TheVariants as reasons
 use Rattle.idl_check.specs.Telling.{TellsWhy}

@@ -1,6 +1,6 @@
 -- What a comparison means by how it ends.
 use Rattle.std.proofs.Common.{◌≡◌, inl, inr, ℕ, true≢false, List, Option, refl, sym, subst, ap, ◌∙◌}
-use Rattle.outside.specs.Files.{File}
+use Rattle.streams.specs.Files.{File}
 use Rattle.schema.specs.PlainSchema.{PlainSchema}
 use Rattle.schema.specs.Sound.{IsSound}
 use Rattle.idl_check.specs.declared.refusal.NoSchema.{NoSchema}

@@ -1,9 +1,9 @@
 -- A line that is handed to the errors.
 use Rattle.std.proofs.Common.{◌≡◌, ℕ, List, length, take, Option, Result, Ok, Err, MatchResult, IfOk, refl, sym, ap, ◌∙◌, subst, inl, inr}
 use Rattle.std.proofs.Math.Seq.{take-length, take-append_seam}
-use Rattle.outside.specs.Cause.{HasCause}
-use Rattle.outside.specs.Content.{told_more}
-use Rattle.outside.specs.Taken.{IsTakenInPart}
+use Rattle.streams.specs.Cause.{HasCause}
+use Rattle.streams.specs.Content.{told_more}
+use Rattle.streams.specs.Taken.{IsTakenInPart}
 use Rattle.thrift_host.specs.declared.status.Status.{Status}
 use Rattle.thrift_host.specs.declared.status.Status.TheVariants.{NoMemory}
 use Rattle.thrift_host.specs.Errors.{Errors, IsSaid}

@@ -1,6 +1,6 @@
 -- What is promised of a call that is made at a port.
 use Rattle.std.specs.Prelude.{◌⊎◌, ℕ, List, ◌++◌, Option, Ok, codes}
-use Rattle.outside.specs.Files.{File}
+use Rattle.streams.specs.Files.{File}
 use Rattle.text_out.specs.Line.{line_of}
 use Rattle.schema.specs.PlainSchema.{PlainSchema}
 use Rattle.idl_check.specs.Lines.{idl_refusal_text}

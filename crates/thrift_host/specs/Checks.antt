@@ -1,8 +1,8 @@
 -- What is promised of a check of an IDL.
 use Rattle.std.specs.Prelude.{◌≡◌, ℕ, List, Option}
-use Rattle.outside.specs.Content.{told_more}
-use Rattle.outside.specs.Taken.{IsTakenInPart}
-use Rattle.outside.specs.Files.{File}
+use Rattle.streams.specs.Content.{told_more}
+use Rattle.streams.specs.Taken.{IsTakenInPart}
+use Rattle.streams.specs.Files.{File}
 use Rattle.idl_token.specs.declared.Place.{Place}
 use Rattle.recorded_runs.specs.Recorded.{Streams}
 use Rattle.thrift_host.specs.declared.status.Status.{Status}

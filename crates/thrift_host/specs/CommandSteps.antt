@@ -1,6 +1,6 @@
 -- Steps of the top call on the way to what it promises. No clause of `host` cites them.
 use Rattle.std.specs.Prelude.{◌≡◌, List, Option}
-use Rattle.outside.specs.Cause.{Rose}
+use Rattle.streams.specs.Cause.{Rose}
 use Rattle.call_rules.specs.Handling.{ServiceState}
 use Rattle.command_line.specs.Words.{PlainCommand}
 use Rattle.port_calls.specs.Called.{CallChange}

@@ -1,7 +1,7 @@
 -- Steps of a comparison on the way to what it promises. No clause of `host` cites them.
 use Rattle.std.specs.Prelude.{◌≡◌, ℕ, ◌⊎◌, Bool, true, false, List, Option}
-use Rattle.outside.specs.Content.{told_more}
-use Rattle.outside.specs.Taken.{IsTakenInPart}
+use Rattle.streams.specs.Content.{told_more}
+use Rattle.streams.specs.Taken.{IsTakenInPart}
 use Rattle.compat_model.specs.declared.break_kind.BreakKind.{BreakKind}
 use Rattle.compat_model.specs.declared.break_kind.BreakKind.TheVariants as breaks
 use Rattle.compat_model.specs.Breaks.{PlainBreak, IsCompatible, IsFirstBreak}

@@ -1,8 +1,8 @@
 -- What is promised of a comparison of an IDL with the one that comes after it.
 use Rattle.std.specs.Prelude.{◌≡◌, ℕ, ◌⊎◌, List, Option, codes}
-use Rattle.outside.specs.Content.{told_more}
-use Rattle.outside.specs.Taken.{IsTakenInPart}
-use Rattle.outside.specs.Files.{File}
+use Rattle.streams.specs.Content.{told_more}
+use Rattle.streams.specs.Taken.{IsTakenInPart}
+use Rattle.streams.specs.Files.{File}
 use Rattle.text_out.specs.Line.{line_of}
 use Rattle.schema.specs.PlainSchema.{PlainSchema}
 use Rattle.idl_check.specs.Lines.{idl_refusal_text}

@@ -1,7 +1,7 @@
 -- Commands that can't but be done, where nothing fails and memory suffices.
 use Rattle.std.specs.Prelude.{◌≡◌, ◌⊎◌, ℕ, true, false, List, Option, None, Some, IsSome, Ok}
-use Rattle.outside.specs.Cause.{Rose}
-use Rattle.outside.specs.Files.{File}
+use Rattle.streams.specs.Cause.{Rose}
+use Rattle.streams.specs.Files.{File}
 use Rattle.call_rules.specs.Handling.{ServiceState}
 use Rattle.schema.specs.PlainSchema.{PlainSchema}
 use Rattle.idl_check.specs.Verdicts.{accepted, is_the_tutorial, IsIdlVerdict}

@@ -1,7 +1,7 @@
 -- The line that a command adds to its errors.
 use Rattle.std.specs.Prelude.{◌≡◌, ℕ, ◌⊎◌, List, [], Option, Some, None, take, codes, MatchOption}
-use Rattle.outside.specs.Cause.{Rose}
-use Rattle.outside.specs.Content.{told_more}
+use Rattle.streams.specs.Cause.{Rose}
+use Rattle.streams.specs.Content.{told_more}
 use Rattle.text_out.specs.Line.{line_of}
 use Rattle.thrift_host.specs.declared.status.Status.{Status}
 use Rattle.thrift_host.specs.declared.status.Status.TheVariants.{Done, Usage, IdlRefused, ScriptRefused, BindRefused, FileFault, ReadFault, WriteFault, NetFault, JournalFault, NoMemory, CallRefused, ReplyRefused, Incompatible}

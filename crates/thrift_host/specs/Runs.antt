@@ -1,6 +1,6 @@
 -- What is promised of a command that runs a script: recorded connections, on which services of an IDL are served, in whatever way the runs are made.
 use Rattle.std.specs.Prelude.{◌≡◌, ℕ, ◌⊎◌, List, Option, Ok}
-use Rattle.outside.specs.Files.{File}
+use Rattle.streams.specs.Files.{File}
 use Rattle.call_rules.specs.Handling.{ServiceState}
 use Rattle.call_model.specs.Offices.{Binding, PlainOffice}
 use Rattle.call_model.specs.Desk.{desk_of}

@@ -1,7 +1,7 @@
 -- What is promised of serving connections at a port.
 use Rattle.std.specs.Prelude.{◌≡◌, ◌⊎◌, ℕ, List, Option}
 use Rattle.outside.specs.Binding.{PastLinks}
-use Rattle.outside.specs.Files.{File}
+use Rattle.streams.specs.Files.{File}
 use Rattle.call_rules.specs.Handling.{ServiceState}
 use Rattle.call_model.specs.Offices.{PlainOffice}
 use Rattle.call_model.specs.Desk.{desk_of}

@@ -1,7 +1,7 @@
 -- Steps of the program on the way to what it promises. No part of the promise: no clause of `host` cites them.
 use Rattle.std.specs.Prelude.{◌≡◌, ⊤, ℕ, ◌⊎◌, Bool, true, false, List, Option, Result, Ok, Err, MatchResult}
-use Rattle.outside.specs.Content.{told_more}
-use Rattle.outside.specs.Taken.{IsTakenInPart}
+use Rattle.streams.specs.Content.{told_more}
+use Rattle.streams.specs.Taken.{IsTakenInPart}
 use Rattle.idl_check.specs.declared.refusal.NoSchema.{NoSchema}
 use Rattle.idl_check.specs.declared.refusal.NoSchema.TheVariants as reasons
 use Rattle.idl_check.specs.Lines.{idl_refusal_text}

@@ -1,6 +1,6 @@
 -- What the top call promises of its status, of what it was given, and of its errors' line.
 use Rattle.std.specs.Prelude.{◌≡◌, ⊤, ℕ, List, Option, Some}
-use Rattle.outside.specs.Files.{File}
+use Rattle.streams.specs.Files.{File}
 use Rattle.call_rules.specs.Handling.{ServiceState}
 use Rattle.command_line.specs.Served.{PlainServed}
 use Rattle.command_line.specs.Words.{PlainCommand, checks, compares, rehearses, records, serves, runs, calls}

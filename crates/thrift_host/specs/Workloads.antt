@@ -1,8 +1,8 @@
 -- What is promised of a workload that is run: the tutorial's calculator, served on the connections of a script that is made from a seed.
 use Rattle.std.specs.Prelude.{◌≡◌, ℕ, Bool, List, [], ◌∷◌, codes, Option, None}
-use Rattle.outside.specs.Content.{told_more}
-use Rattle.outside.specs.Files.{File}
-use Rattle.outside.specs.Taken.{IsTakenInPart}
+use Rattle.streams.specs.Content.{told_more}
+use Rattle.streams.specs.Files.{File}
+use Rattle.streams.specs.Taken.{IsTakenInPart}
 use Rattle.call_rules.specs.declared.kind.Kind.TheVariants.{Calculator}
 use Rattle.call_rules.specs.Handling.{ServiceState}
 use Rattle.service_binding.specs.Pairs.{NamedKind}

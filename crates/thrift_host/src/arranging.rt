@@ -1,8 +1,8 @@
 //! What a run stands on: the office of an IDL's services, and the handlers in its slots.
 
 ghost use Rattle.std.specs.Prelude.{◌≡◌, ◌≤◌, true, false, length, map, Option, List, IfOk, OnOk, MatchResult};
-ghost use Rattle.outside.specs.Cause.{Rose};
-ghost use Rattle.outside.specs.Files.{File};
+ghost use Rattle.streams.specs.Cause.{Rose};
+ghost use Rattle.streams.specs.Files.{File};
 ghost use Rattle.command_line.specs.Answering.{plain_served};
 ghost use Rattle.command_line.specs.Bounds.{KeepsServedBounds};
 ghost use Rattle.conn_table.specs.Servable.{CanServe};
@@ -16,7 +16,7 @@ use crate::{BindFault, bind};
 use call_rules::Handler;
 use command_line::ServedIdl;
 use idl_check::{NoSchema, program_schema};
-use outside::Files;
+use streams::Files;
 use processor::Office;
 use recorded_runs::ServingFault;
 use schema::Schema;

@@ -1,7 +1,7 @@
 //! A call of a method at a port.
 
 ghost use Rattle.std.specs.Prelude.{◌≡◌, ◌≢◌, IfOk};
-ghost use Rattle.outside.specs.Cause.{Rose};
+ghost use Rattle.streams.specs.Cause.{Rose};
 ghost use Rattle.command_line.specs.Answering.{plain_asking};
 ghost use Rattle.schema.specs.SchemaOf.{schema_of};
 ghost use Rattle.schema.specs.Sound.{IsSound};
@@ -13,7 +13,8 @@ use crate::saying::{end, end_saying};
 use crate::status::Status;
 use command_line::AskedCall;
 use idl_check::program_schema;
-use outside::{Binder, Files, Sink};
+use outside::Binder;
+use streams::{Files, Sink};
 use port_calls::{CallFault, CallRefusal, PortCall, ReplyRefusal, call_port};
 use schema::Schema;
 use std::alloc::{AllocError, Global};

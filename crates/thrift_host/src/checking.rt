@@ -1,8 +1,8 @@
 //! A check: the text of an IDL's schema.
 
 ghost use Rattle.std.specs.Prelude.{◌≡◌, true, ℕ, List, Option, MatchResult};
-ghost use Rattle.outside.specs.Cause.{Rose};
-ghost use Rattle.outside.specs.Files.{File};
+ghost use Rattle.streams.specs.Cause.{Rose};
+ghost use Rattle.streams.specs.Files.{File};
 ghost use Rattle.idl_check.specs.Verdicts.{IsIdlVerdict, IsSchemaTextOf, IsUnreadIdl};
 ghost use Rattle.idl_check.specs.Telling.{TellsWhy, is_file_fault};
 ghost use Rattle.thrift_host.specs.Checks.{MeansCheck, SaysCheck};
@@ -11,7 +11,7 @@ ghost use Rattle.thrift_host.specs.Steps.{EndsWithout, EndsWriting};
 use crate::saying::{end, end_saying};
 use crate::status::Status;
 use idl_check::{NoSchema, program_text};
-use outside::{Files, Sink, write_all};
+use streams::{Files, Sink, write_all};
 use std::alloc::Global;
 
 /// Checks the IDL of this name: the text of its schema goes to the output.

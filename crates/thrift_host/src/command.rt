@@ -1,7 +1,7 @@
 //! The top call.
 
 ghost use Rattle.std.specs.Prelude.{◌≡◌, ◌≢◌, ◌≤◌, ◌⊎◌, ℕ, List, Option, map, string_bytes};
-ghost use Rattle.outside.specs.Cause.{Rose};
+ghost use Rattle.streams.specs.Cause.{Rose};
 ghost use Rattle.command_line.specs.Answering.{plain_served};
 ghost use Rattle.command_line.specs.Bounds.{KeepsServedBounds};
 ghost use Rattle.command_line.specs.Words.{words_of};
@@ -26,7 +26,8 @@ use call_rules::Handler;
 use command_line::{Command, ServedIdl, read_words};
 use compat_model::a_break_is_no_compatibility;
 use idl_check::refusal_laws::an_idl_has_one_verdict;
-use outside::{Binder, Files, Gate, Sink, Source};
+use outside::{Binder, Gate};
+use streams::{Files, Sink, Source};
 use port_serving::ServedPort;
 use recorded_runs::Work;
 use service_binding::what_is_bound_is_not_refused;

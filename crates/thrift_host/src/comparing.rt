@@ -1,8 +1,8 @@
 //! A comparison: whether the values and calls of an IDL survive the one that comes after it.
 
 ghost use Rattle.std.specs.Prelude.{◌≡◌, ℕ, List, Option};
-ghost use Rattle.outside.specs.Cause.{Rose};
-ghost use Rattle.outside.specs.Files.{File};
+ghost use Rattle.streams.specs.Cause.{Rose};
+ghost use Rattle.streams.specs.Files.{File};
 ghost use Rattle.schema.specs.SchemaOf.{schema_of};
 ghost use Rattle.schema.specs.Sound.{IsSound};
 ghost use Rattle.compat_check.specs.Answered.{plain_break};
@@ -17,7 +17,7 @@ use command_line::ComparedIdls;
 use compat_check::{Break, compat};
 use compat_model::BreakKind;
 use idl_check::program_schema;
-use outside::{Files, Sink, write_all};
+use streams::{Files, Sink, write_all};
 use schema::Schema;
 use std::alloc::Global;
 

@@ -13,7 +13,7 @@ use crate::saying::{end, end_saying};
 use crate::serving::ServeFault;
 use crate::status::Status;
 use command_line::ServedIdl;
-use outside::Sink;
+use streams::Sink;
 use port_serving::PortFault;
 use recorded_runs::{ServingFault, put_refused_script};
 use script_text::ScriptFault;

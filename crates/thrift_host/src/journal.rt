@@ -5,7 +5,7 @@ ghost use Rattle.journal_text.specs.EntryText.{entry_text};
 
 use call_rules::{Entry, Journal};
 use journal_text::{SegmentJournal, put_entry};
-use outside::Failed;
+use streams::Failed;
 use run_report::{EntryLine, ReportedJournal};
 use std::alloc::{AllocError, Global};
 use std::marker::Model;

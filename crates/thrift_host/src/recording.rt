@@ -1,7 +1,7 @@
 //! A recorded run: recorded connections, served by handlers of an IDL's services, by a loop with workers on threads.
 
 ghost use Rattle.std.specs.Prelude.{◌≡◌, true, length, map, Err, OnOk};
-ghost use Rattle.outside.specs.Cause.{Rose};
+ghost use Rattle.streams.specs.Cause.{Rose};
 ghost use Rattle.conn_table.specs.Servable.{CanServe};
 ghost use Rattle.call_model.specs.Desk.{desk_of};
 ghost use Rattle.command_line.specs.Answering.{plain_served};
@@ -20,7 +20,8 @@ use crate::journal::{JournalLines, ReportedList};
 use call_rules::Handler;
 use command_line::ServedIdl;
 use conn_table::Limits;
-use outside::{Files, Gate, Sink, Source};
+use outside::Gate;
+use streams::{Files, Sink, Source};
 use processor::Office;
 use recorded_runs::{ServingFault, serve_recorded};
 use std::alloc::Global;

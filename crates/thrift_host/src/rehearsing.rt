@@ -1,7 +1,7 @@
 //! A rehearsal: recorded connections, served by handlers of an IDL's services, without threads.
 
 ghost use Rattle.std.specs.Prelude.{◌≡◌, true, length, map, Err, OnOk};
-ghost use Rattle.outside.specs.Cause.{Rose};
+ghost use Rattle.streams.specs.Cause.{Rose};
 ghost use Rattle.conn_table.specs.Servable.{CanServe};
 ghost use Rattle.call_model.specs.Desk.{desk_of};
 ghost use Rattle.command_line.specs.Answering.{plain_served};
@@ -19,7 +19,7 @@ use crate::journal::{JournalLines, ReportedList};
 use call_rules::Handler;
 use command_line::ServedIdl;
 use conn_table::Limits;
-use outside::{Files, Sink, Source};
+use streams::{Files, Sink, Source};
 use processor::Office;
 use recorded_runs::{ServingFault, answer_recorded};
 use std::alloc::Global;

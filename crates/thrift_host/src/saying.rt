@@ -7,7 +7,7 @@ ghost use Rattle.thrift_host.specs.declared.status.Status.TheVariants as statuse
 
 use crate::status::Status;
 use command_line::WordsFault;
-use outside::{Sink, write_all};
+use streams::{Sink, write_all};
 use std::alloc::AllocError;
 
 /// Ends the command with a status that has a fixed line, which goes to the errors.

@@ -1,7 +1,7 @@
 //! Connections at a port, served by handlers of an IDL's services, by a loop with workers on threads.
 
 ghost use Rattle.std.specs.Prelude.{◌≡◌, ℕ, List, Option, true, length, map, Err, OnOk};
-ghost use Rattle.outside.specs.Cause.{Rose};
+ghost use Rattle.streams.specs.Cause.{Rose};
 ghost use Rattle.conn_table.specs.Servable.{CanServe};
 ghost use Rattle.call_model.specs.Desk.{desk_of};
 ghost use Rattle.command_line.specs.Answering.{plain_served};
@@ -16,7 +16,8 @@ use crate::arranging::{RunFault, arrange, let_go};
 use call_rules::Handler;
 use command_line::ServedIdl;
 use conn_table::Limits;
-use outside::{Binder, Files, Gate, Sink};
+use outside::{Binder, Gate};
+use streams::{Files, Sink};
 use port_serving::{PortFault, ServedPort, serve_port};
 use processor::Office;
 use std::alloc::Global;

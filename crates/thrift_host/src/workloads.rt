@@ -1,8 +1,8 @@
 //! A workload: the tutorial's calculator, served on the connections of a script that is made from a seed, by a loop with workers on threads.
 
 ghost use Rattle.std.specs.Prelude.{◌≡◌, ◌≤◌, ℕ, List, Option, true, false, length, map, IfOk, OnOk, MatchResult, Err};
-ghost use Rattle.outside.specs.Cause.{Rose};
-ghost use Rattle.outside.specs.Files.{File};
+ghost use Rattle.streams.specs.Cause.{Rose};
+ghost use Rattle.streams.specs.Files.{File};
 ghost use Rattle.conn_table.specs.Servable.{CanServe};
 ghost use Rattle.command_line.specs.Answering.{plain_served};
 ghost use Rattle.processor.specs.Offices.{plain_office};
@@ -25,7 +25,8 @@ use command_line::ServedIdl;
 use conn_table::Limits;
 use envelope::Protocol;
 use idl_check::program_schema;
-use outside::{Files, Gate, Sink};
+use outside::Gate;
+use streams::{Files, Sink};
 use processor::Office;
 use recorded_runs::{ServingFault, Work, serve_workload};
 use schema::Schema;

@@ -3,10 +3,10 @@ use Rattle.std.proofs.Common.{◌≡◌, ℕ, ℤ, codes, ◌+◌, ◌<◌, ◌�
 use Rattle.std.specs.List.{flat_map}
 use Rattle.std.specs.Prelude.{MatchResult}
 use Rattle.std.specs.Result.{IsErr}
-use Rattle.outside.specs.Cause.{Rose}
-use Rattle.outside.specs.Content.{told_more}
-use Rattle.outside.specs.Taken.{IsTakenBut}
-use Rattle.outside.proofs.Taking.{none_taken, taken_on, taken_of_more}
+use Rattle.streams.specs.Cause.{Rose}
+use Rattle.streams.specs.Content.{told_more}
+use Rattle.streams.specs.Taken.{IsTakenBut}
+use Rattle.streams.proofs.Taking.{none_taken, taken_on, taken_of_more}
 use Rattle.text_out.specs.Decimal.{decimal_of}
 use Rattle.text_out.specs.Hex.{hex_of}
 use Rattle.thrift_value.specs.declared.value.Value.{Value}

@@ -1,8 +1,8 @@
 -- How a text goes to a sink, part by part.
 use Rattle.std.specs.Prelude.{◌≡◌, ℕ, ◌≤◌, List, [], ◌++◌, Option, Result, MatchResult}
-use Rattle.outside.specs.Cause.{Rose}
-use Rattle.outside.specs.Content.{told_more}
-use Rattle.outside.specs.Taken.{IsTakenBut}
+use Rattle.streams.specs.Cause.{Rose}
+use Rattle.streams.specs.Content.{told_more}
+use Rattle.streams.specs.Taken.{IsTakenBut}
 
 -- of this text a sink took all but what is left, and its count of faults, which was `faults`, is as it was
 pub record HandsOver (before now : Option (List ℕ)) (faults count : ℕ) (text left : List ℕ) : Type 0 where

@@ -2,8 +2,8 @@
 ghost use Rattle.std.specs.Prelude.{◌≡◌, ◌++◌, ◌<◌, ◌≤◌, ◌∷◌, [], codes, drop, length, map, IfOk, IfSome, MatchResult, if◌then◌else◌};
 ghost use Rattle.std.specs.Int.{w64, w128, to_be_bytes};
 ghost use Rattle.std.specs.List.{flat_map, prefix_len};
-ghost use Rattle.outside.specs.Cause.{HasCause};
-ghost use Rattle.outside.specs.Content.{told_more};
+ghost use Rattle.streams.specs.Cause.{HasCause};
+ghost use Rattle.streams.specs.Content.{told_more};
 ghost use Rattle.text_out.specs.Decimal.{decimal_of};
 ghost use Rattle.text_out.specs.Hex.{hex_of};
 ghost use Rattle.text_out.specs.Quoted.{quoted_byte, quoted_of};
@@ -16,7 +16,7 @@ ghost use Rattle.value_text.specs.ValueText.{tag_word, number_and_letter, double
 
 use crate::numbered::{MOST_NUMBER, MOST_NUMBERED, put_number, put_numbered};
 use crate::words::word_of;
-use outside::{Failed, Sink};
+use streams::{Failed, Sink};
 use thrift_value::{Tag, Value};
 
 const HEX_DIGITS: &[u8; 16] = b"0123456789abcdef";

@@ -1,7 +1,7 @@
 //! A vector as a sink.
 ghost use Rattle.std.specs.Prelude.{◌≡◌, take, IsErr, IsOk, MatchResult, OnErr, OnOk};
 
-use outside::{Failed, Sink};
+use streams::{Failed, Sink};
 use std::alloc::AllocError;
 use std::mem;
 

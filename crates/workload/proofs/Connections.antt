@@ -3,8 +3,8 @@ use Rattle.std.proofs.Common.{◌≡◌, ℕ, ◌^◌, ◌<◌, ◌≤◌, ◌==
 use Rattle.std.specs.List.{filter, flat_map, AllByRecursion}
 use Rattle.std.proofs.lemmas.Grind.{flat_map-append}
 use Rattle.std.proofs.lemmas.Option.{none-some}
-use Rattle.outside.specs.declared.marks.Mark.{Mark}
-use Rattle.outside.specs.declared.marks.Mark.TheVariants.{Opened, Ended, ReadFailed, WriteFailed, Closed}
+use Rattle.streams.specs.declared.marks.Mark.{Mark}
+use Rattle.streams.specs.declared.marks.Mark.TheVariants.{Opened, Ended, ReadFailed, WriteFailed, Closed}
 use Rattle.host_model.specs.declared.cause.EndCause.{EndCause}
 use Rattle.host_model.specs.declared.cause.EndCause.TheVariants.{End, Cut, SizeFault, Envelope, ReadFault, WriteFault, NoMemory, Stopped}
 use Rattle.host_model.specs.Frames.{Frames, frame, IsPayload, ArePayloads}

@@ -1,7 +1,7 @@
 -- What an office decides on the payload of a call of one of its functions, and what it replies.
 use Rattle.std.proofs.Common.{◌≡◌, ℕ, ℤ, pos, ◌≤◌, false, if◌then◌else◌, List, [], ◌∷◌, ◌++◌, length, Some, None, Result, Ok, ap, ◌∙◌}
 use Rattle.std.proofs.lemmas.Bool.{le-leb}
-use Rattle.outside.specs.declared.outcomes.EnvelopeFault.{EnvelopeFault}
+use Rattle.streams.specs.declared.outcomes.EnvelopeFault.{EnvelopeFault}
 use Rattle.host_model.specs.Frames.{frame}
 use Rattle.host_model.specs.DeskRules.{Invoke}
 use Rattle.envelope.specs.declared.head.Head.{Head}

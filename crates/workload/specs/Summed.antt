@@ -1,6 +1,6 @@
 -- What a run of a workload comes to.
 use Rattle.std.specs.Prelude.{◌≡◌, ℕ, List, length, slice_get, MatchOption}
-use Rattle.outside.specs.declared.marks.Mark.{Mark}
+use Rattle.streams.specs.declared.marks.Mark.{Mark}
 use Rattle.host_model.specs.declared.cause.EndCause.{EndCause}
 use Rattle.host_model.specs.Marks.{input, output}
 use Rattle.call_rules.specs.declared.kind.Kind.TheVariants.{Calculator}

@@ -3,7 +3,7 @@
 ghost use Rattle.std.specs.Prelude.{◌≡◌, ◌<◌, ◌≤◌, ◌^◌, ℕ, ℤ, Bool, List, Ok, length};
 ghost use Rattle.std.specs.List.{flat_map, sum_by, AllByRecursion};
 ghost use Rattle.thrift_value.specs.Tree.{Tree, of_i32};
-ghost use Rattle.outside.specs.declared.marks.Mark.{Mark};
+ghost use Rattle.streams.specs.declared.marks.Mark.{Mark};
 ghost use Rattle.host_model.specs.Marks.{connection_of, marks_of, input, output};
 ghost use Rattle.host_model.specs.Journal.{entries_of};
 ghost use Rattle.call_rules.specs.Entries.{CallEntry};

@@ -5,7 +5,7 @@ ghost use Rattle.script_model.specs.ScriptLines.{opening, input_end, count_up};
 ghost use Rattle.script_text.specs.Plans.{plain_line, plain_rules};
 ghost use Rattle.workload.specs.LoadPlan.{pieces_of, most_pieces, piece_line, round, rounds, plan_of_streams};
 
-use outside::Bytes;
+use streams::Bytes;
 use script_text::{RuleList, ScriptLine};
 use std::alloc::{AllocError, Global};
 

@@ -1,7 +1,7 @@
 //! Laws of workloads that are run, each the contract of a function that does nothing.
 
 ghost use Rattle.std.specs.Prelude.{◌≡◌, ◌≢◌, ◌<◌, ◌≤◌, ◌^◌, ◌*◌, true, ℕ, ℤ, Some, None, List, [], ◌∷◌, map, slice_get};
-ghost use Rattle.outside.specs.declared.marks.Mark.{Mark};
+ghost use Rattle.streams.specs.declared.marks.Mark.{Mark};
 ghost use Rattle.host_model.specs.declared.cause.EndCause.{EndCause};
 ghost use Rattle.host_model.specs.declared.cause.EndCause.TheVariants.{NoMemory, Stopped};
 ghost use Rattle.host_model.specs.DeskRules as desk;

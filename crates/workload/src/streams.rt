@@ -5,7 +5,7 @@ ghost use Rattle.workload.specs.CallFrames.{frame_by};
 ghost use Rattle.workload.specs.LoadPlan.{connections_of, bytes_on, all_bytes};
 
 use crate::frames::{number_after, put_frame};
-use outside::Bytes;
+use streams::Bytes;
 use std::alloc::{AllocError, Global};
 
 /// The number of connections of a workload of so many frames.

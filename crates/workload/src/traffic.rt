@@ -1,10 +1,10 @@
 //! How many bytes a tape says were read and written. A count stands still at the end of its type.
 
 ghost use Rattle.std.specs.Prelude.{◌≡◌, ◌-◌, ◌^◌, min, length};
-ghost use Rattle.outside.specs.Marks.{lent_mark};
+ghost use Rattle.streams.specs.Marks.{lent_mark};
 ghost use Rattle.host_model.specs.Marks.{input, output, read_by, written_by};
 
-use outside::{MarkAt, Tape};
+use streams::{MarkAt, Tape};
 
 /// How many bytes were read.
 pub fn bytes_read(tape: &Tape) -> u64

@@ -6,7 +6,7 @@ ghost use Rattle.host_model.specs.Conversation.{answer_at, called, reply_for, se
 ghost use Rattle.host_model.specs.Plain.{decision_seen, journal_seen};
 
 use super::journals::PlainEntry;
-use outside::{Bytes, EnvelopeFault};
+use streams::{Bytes, EnvelopeFault};
 use std::alloc::{AllocError, Global};
 
 /// What is decided on a payload.

@@ -3,7 +3,7 @@
 ghost use Rattle.std.specs.Prelude.{◌≡◌, IfOk};
 ghost use Rattle.host_model.specs.Marks.{connection_of, marks_of, read_by, written_by, input, output};
 
-use outside::{Bytes, Mark};
+use streams::{Bytes, Mark};
 use std::alloc::{AllocError, Global};
 
 /// The number of the connection that a mark is of.

@@ -8,7 +8,7 @@ ghost use Rattle.machine_model.specs.Seen.{conn_of, conns_of, loop_of, conn_even
 use super::conns::{PlainConn, ends, fails_read, fails_write, gives_up, reads, writes};
 use host_model::EndCause;
 use limits::MOST_CONNECTIONS;
-use outside::{Bytes, Mark};
+use streams::{Bytes, Mark};
 use std::alloc::{AllocError, Global};
 
 /// What happens on a connection alone; connections have numbers, from 0.

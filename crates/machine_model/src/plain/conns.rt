@@ -1,7 +1,7 @@
 //! A connection, and what happens on it.
 
 ghost use Rattle.std.specs.Prelude.{◌≡◌, ◌&&◌, not, ◌++◌, ◌∷◌, [], Some, IfOk, option_map};
-ghost use Rattle.outside.specs.declared.marks.Mark.TheVariants.{Wrote, Closed};
+ghost use Rattle.streams.specs.declared.marks.Mark.TheVariants.{Wrote, Closed};
 ghost use Rattle.host_model.specs.World.{end_behind};
 ghost use Rattle.machine_model.specs.Loop.{new_conn, read_more, marks_read};
 ghost use Rattle.machine_model.specs.Plain.{is_empty, owes_nothing, stays_in_size, is_given_up, ended_plain, reads_plain, ends_plain, fails_read_plain, writes_plain, fails_write_plain, gives_up_plain, progress_by, progress_plain};
@@ -9,7 +9,7 @@ ghost use Rattle.machine_model.specs.Seen.{conn_of, seen_progress};
 
 use super::progress::{PlainProgress, progress_by};
 use host_model::EndCause;
-use outside::{Bytes, Mark};
+use streams::{Bytes, Mark};
 use std::alloc::{AllocError, Global};
 
 /// A connection.

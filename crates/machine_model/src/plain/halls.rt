@@ -5,7 +5,7 @@ ghost use Rattle.machine_model.specs.HallState.{is_same, without};
 
 use host_model::Key;
 use host_model::plain::PlainEntry;
-use outside::Settled;
+use streams::Settled;
 
 /// A payload that waits for a worker.
 #[derive(Drop)]

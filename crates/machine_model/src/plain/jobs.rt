@@ -13,7 +13,7 @@ use super::halls::{PlainHall, PlainJobOutcome, take_first, take_out};
 use super::workers::{PlainWorkerState, worker_at};
 use host_model::Key;
 use host_model::plain::{Decided, PlainDesk};
-use outside::{Bytes, Settled};
+use streams::{Bytes, Settled};
 use std::alloc::{AllocError, Global};
 
 /// A job is taken, where there is one. Tells whether the worker can take any.

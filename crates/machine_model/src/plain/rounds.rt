@@ -10,7 +10,7 @@ use super::conn_events::PlainLoop;
 use super::conns::{PlainConn, closing};
 use super::halls::{PlainJob, take_first};
 use host_model::{EndCause, Key};
-use outside::{Mark, Settled};
+use streams::{Mark, Settled};
 use std::alloc::{AllocError, Global};
 
 /// The first payload of a connection that isn't submitted, where there is one, in memory of its own.

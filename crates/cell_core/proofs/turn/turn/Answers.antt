@@ -1,5 +1,5 @@
 use Rattle.std.proofs.Common.{◌≡◌, true, refl, sym, subst, inr}
-use Rattle.outside.specs.declared.outcomes.Settled.TheVariants.{NoMemory}
+use Rattle.streams.specs.declared.outcomes.Settled.TheVariants.{NoMemory}
 use Rattle.call_rules.specs.Desks.{DeskMeaning}
 use Rattle.call_rules.specs.Handling.{handler_rules}
 use Rattle.machine_model.specs.HallState.{Job, has_key}

@@ -1,6 +1,6 @@
 use Rattle.std.proofs.Common.{refl, sym, ◌∙◌}
-use Rattle.outside.specs.Cause.{Rose}
-use Rattle.outside.proofs.Causes.{on_ok}
+use Rattle.streams.specs.Cause.{Rose}
+use Rattle.streams.proofs.Causes.{on_ok}
 use Rattle.idl_check.proofs.Telling.{of_tutorial, of_file, never_rises}
 use Rattle.idl_check.proofs.program.program_schema.Goals as goal
 

@@ -1,4 +1,4 @@
-use Rattle.outside.proofs.Causes.{on_ok}
+use Rattle.streams.proofs.Causes.{on_ok}
 use Rattle.idl_check.proofs.Telling.{from_loaded, from_stopped}
 use Rattle.idl_check.proofs.program.schema_among.Goals as goal
 

@@ -1,6 +1,6 @@
 use Rattle.std.proofs.Common.{ℕ, List, refl, subst}
 use Rattle.idl_include.specs.Loads.{IsTextRead}
-use Rattle.outside.proofs.Causes.{on_ok}
+use Rattle.streams.proofs.Causes.{on_ok}
 use Rattle.idl_include.proofs.OneFile.{read_is}
 use Rattle.idl_include.proofs.Failed.{failed_is, read_otherwise}
 use Rattle.idl_include.proofs.reading.read_file.Goals as goal

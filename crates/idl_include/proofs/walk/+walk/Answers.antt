@@ -5,7 +5,7 @@ use Rattle.idl_include.specs.SourcesOf.{program_in, AreBegun}
 use Rattle.idl_include.specs.declared.sources.IdlFile.{IdlFile}
 use Rattle.idl_include.specs.Begun.{written_in, include_meant, IsRefusedAt}
 use Rattle.idl_include.specs.Steps.{load_stage}
-use Rattle.outside.proofs.Causes.{on_ok}
+use Rattle.streams.proofs.Causes.{on_ok}
 use Rattle.idl_include.proofs.Stages.{ends_for_want}
 use Rattle.idl_include.proofs.Begins.{no_level_ends}
 use Rattle.idl_include.proofs.Included.{refused_ends, moves_keeping, before_goes, new_goes, new_ends, want_behind, new_name}

@@ -1,6 +1,6 @@
 use Rattle.std.proofs.Common.{◌≡◌, refl, ℕ, ◌≤◌, length, ap, arith}
 use Rattle.std.proofs.lemmas.Bool.{true≢false, false≢true}
-use Rattle.outside.specs.Cause.{next_count}
+use Rattle.streams.specs.Cause.{next_count}
 use Rattle.machine_model.specs.HallState.{HallState}
 use Rattle.machine_model.proofs.WrongSteps.{differ, first_job, first_outcome}
 use Rattle.machine_model.proofs.examples.wrong_answers_of_the_hall.Goals as goal

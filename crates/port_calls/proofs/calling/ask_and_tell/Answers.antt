@@ -1,7 +1,7 @@
 use Rattle.std.proofs.Common.{◌≡◌, Err, Global, List, Vec, refl, rules, subst, ℕ}
 use Rattle.client_desk.specs.ClientOf.{plain_client}
-use Rattle.outside.specs.Content.{told_more}
-use Rattle.outside.specs.Taken.{IsTakenInPart}
+use Rattle.streams.specs.Content.{told_more}
+use Rattle.streams.specs.Taken.{IsTakenInPart}
 use Rattle.port_calls.proofs.Exchanged.{ends_unasked, ends_unheard, is_told}
 use Rattle.port_calls.proofs.calling.ask_and_tell.Goals as goal
 

@@ -1,5 +1,5 @@
 use Rattle.std.proofs.Common.{refl, ap, ◌∙◌}
-use Rattle.outside.specs.Making.{told_with_file}
+use Rattle.streams.specs.Making.{told_with_file}
 use Rattle.port_serving.proofs.PlaceServed.{same_count}
 use Rattle.port_serving.proofs.file_journal.begin_journal.Goals as goal
 

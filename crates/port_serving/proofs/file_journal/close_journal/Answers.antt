@@ -1,5 +1,5 @@
 use Rattle.std.proofs.Common.{ap, ◌∙◌}
-use Rattle.outside.specs.Cause.{next_if_faulty}
+use Rattle.streams.specs.Cause.{next_if_faulty}
 use Rattle.port_serving.proofs.Filing.{kept}
 use Rattle.port_serving.proofs.file_journal.close_journal.Goals as goal
 

@@ -1,5 +1,5 @@
 use Rattle.std.proofs.Common.{◌∙◌}
-use Rattle.outside.proofs.Causes.{on_ok}
+use Rattle.streams.proofs.Causes.{on_ok}
 use Rattle.port_serving.proofs.Filing.{unused, opened_so, no_file_fault}
 use Rattle.port_serving.proofs.file_journal.open_journal.Goals as goal
 

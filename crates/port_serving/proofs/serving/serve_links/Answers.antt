@@ -1,7 +1,7 @@
 use Rattle.std.proofs.Common.{◌≡◌, List, [], ℕ, Option, Some, map, refl, sym, subst, ◌∙◌}
 use denote.Param.Send.{sendable}
-use Rattle.outside.specs.Files.{File}
-use Rattle.outside.specs.Making.{told_with_file}
+use Rattle.streams.specs.Files.{File}
+use Rattle.streams.specs.Making.{told_with_file}
 use Rattle.outside.specs.LinksState.{Listening}
 use Rattle.call_rules.specs.Entries.{CallEntry}
 use Rattle.host_loop.specs.Served.{ServerSetting, ServedRun}

@@ -1,8 +1,8 @@
 use Rattle.std.proofs.Common.{ℕ, List, Option, map, refl, sym, subst, ◌∙◌}
 use Rattle.std.proofs.lemmas.Result.{err_from_is_err_and}
-use Rattle.outside.specs.Cause.{Rose}
-use Rattle.outside.proofs.Causes.{kept_on, on_ok, ok_then}
-use Rattle.outside.specs.Files.{File}
+use Rattle.streams.specs.Cause.{Rose}
+use Rattle.streams.proofs.Causes.{kept_on, on_ok, ok_then}
+use Rattle.streams.specs.Files.{File}
 use Rattle.outside.specs.LinksState.{Listening}
 use Rattle.outside.specs.Binding.{PastLinks, StartListening}
 use Rattle.host_loop.specs.Served.{ServerSetting}

@@ -1,5 +1,5 @@
 use Rattle.std.proofs.Common.{map}
-use Rattle.outside.proofs.Causes.{on_ok}
+use Rattle.streams.proofs.Causes.{on_ok}
 use Rattle.recorded_runs.specs.Answered.{Answering, IsRunOfScript, script_for}
 use Rattle.recorded_runs.proofs.Coming.{answered, unread, no_write_fault, no_journal_fault}
 use Rattle.recorded_runs.proofs.answering.answer_recorded.Goals as goal

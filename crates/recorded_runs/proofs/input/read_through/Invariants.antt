@@ -1,5 +1,5 @@
 use Rattle.std.proofs.Common.{◌≡◌, ◌-◌, vec_len}
-use Rattle.outside.specs.Content.{told_before}
+use Rattle.streams.specs.Content.{told_before}
 use Rattle.recorded_runs.proofs.input.read_through.Given as goal
 
 -- what was read, in front of what is left, is what was there

@@ -1,5 +1,5 @@
 use Rattle.std.proofs.Common.{map}
-use Rattle.outside.proofs.Causes.{on_ok}
+use Rattle.streams.proofs.Causes.{on_ok}
 use Rattle.recorded_runs.specs.Answered.{Answering}
 use Rattle.recorded_runs.proofs.Coming.{answered, unread, no_write_fault, no_journal_fault}
 use Rattle.recorded_runs.specs.ServedScripts.{script_to_serve, IsServedScript}

@@ -1,8 +1,8 @@
 use Rattle.std.proofs.Common.{◌+◌, ◌++◌, drop, refl, subst, ◌∙◌, arith}
 use Rattle.text_out.specs.Line.{line_of}
 use Rattle.host_model.specs.Report.{end_text}
-use Rattle.outside.specs.Taken.{IsTakenBut}
-use Rattle.outside.proofs.Taking.{next_taken, next_in_part, err_takes}
+use Rattle.streams.specs.Taken.{IsTakenBut}
+use Rattle.streams.proofs.Taking.{next_taken, next_in_part, err_takes}
 use Rattle.run_report.specs.Written.{ended_lines}
 use Rattle.run_report.proofs.Ended.{ended_left}
 use Rattle.run_report.proofs.report.write_ends.Goals as goal

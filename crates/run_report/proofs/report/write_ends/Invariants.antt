@@ -1,5 +1,5 @@
 use Rattle.std.proofs.Common.{◌≡◌, ◌-◌, ◌++◌, length, drop}
-use Rattle.outside.specs.Taken.{IsTakenBut}
+use Rattle.streams.specs.Taken.{IsTakenBut}
 use Rattle.run_report.specs.Written.{ended_lines}
 use Rattle.run_report.proofs.report.write_ends.Given as goal
 

@@ -1,7 +1,7 @@
 use Rattle.std.proofs.Common.{◌≡◌, List, ℕ, [], ◌∷◌, ◌++◌, take, drop, ap, sym, subst, ◌∙◌, refl, take-append-drop}
 use Rattle.text_out.specs.Hex.{hex_of}
-use Rattle.outside.specs.Taken.{IsTakenBut}
-use Rattle.outside.proofs.Taking.{next_taken, next_in_part, err_takes}
+use Rattle.streams.specs.Taken.{IsTakenBut}
+use Rattle.streams.proofs.Taking.{next_taken, next_in_part, err_takes}
 use Rattle.run_report.proofs.report.write_hex.Goals as goal
 
 hex_of-append : (a b : List ℕ) → hex_of (a ++ b) ≡ hex_of a ++ hex_of b

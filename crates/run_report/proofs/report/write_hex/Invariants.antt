@@ -1,6 +1,6 @@
 use Rattle.std.proofs.Common.{◌≡◌, ◌++◌, length}
 use Rattle.text_out.specs.Hex.{hex_of}
-use Rattle.outside.specs.Taken.{IsTakenBut}
+use Rattle.streams.specs.Taken.{IsTakenBut}
 use Rattle.run_report.proofs.report.write_hex.Given as goal
 
 abbrev pub invariant-chunks : goal.invariant-chunks

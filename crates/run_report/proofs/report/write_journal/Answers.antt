@@ -1,7 +1,7 @@
 use Rattle.std.proofs.Common.{◌≡◌, Some, slice_get, sym, ◌∙◌}
 use Rattle.std.proofs.lemmas.Option.{slice_get_within, get_or_from_slice_get}
 use Rattle.text_out.specs.Line.{line_of}
-use Rattle.outside.proofs.Taking.{line_taken, line_in_part, err_takes}
+use Rattle.streams.proofs.Taking.{line_taken, line_in_part, err_takes}
 use Rattle.run_report.proofs.report.write_journal.Goals as goal
 
 pub returns-in_err-write_entry-clause-told : goal.returns-in_err-write_entry-clause-told

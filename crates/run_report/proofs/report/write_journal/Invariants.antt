@@ -1,6 +1,6 @@
 use Rattle.std.proofs.Common.{◌≡◌, ◌++◌, drop}
 use Rattle.host_model.specs.Report.{journal_lines}
-use Rattle.outside.specs.Taken.{IsTakenBut}
+use Rattle.streams.specs.Taken.{IsTakenBut}
 use Rattle.run_report.proofs.report.write_journal.Given as goal
 
 abbrev pub invariant-loop-i : goal.invariant-loop-i

@@ -1,11 +1,11 @@
 use Rattle.std.proofs.Common.{◌≡◌, ℕ, List, ◌++◌, length, codes, Option, sym, ap, subst, ◌∙◌, append_assoc}
-use Rattle.outside.specs.declared.marks.Mark.{Mark}
+use Rattle.streams.specs.declared.marks.Mark.{Mark}
 use Rattle.text_out.specs.Line.{line_of}
 use Rattle.host_model.specs.declared.cause.EndCause.{EndCause}
 use Rattle.host_model.specs.Report.{end_lines, journal_lines, numbered, report, tape_lines}
 use Rattle.call_rules.specs.Entries.{CallEntry}
-use Rattle.outside.specs.Taken.{IsTakenBut, TakesText}
-use Rattle.outside.proofs.Taking.{none_taken, next_taken, next_in_part, last_takes, err_takes}
+use Rattle.streams.specs.Taken.{IsTakenBut, TakesText}
+use Rattle.streams.proofs.Taking.{none_taken, next_taken, next_in_part, last_takes, err_takes}
 use Rattle.run_report.specs.Written.{outputs, ended_lines}
 use Rattle.run_report.proofs.Ended.{ended_as_told, as_many}
 use Rattle.run_report.proofs.report.write_lines.Goals as goal

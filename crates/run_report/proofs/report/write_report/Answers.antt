@@ -1,8 +1,8 @@
 use Rattle.std.proofs.Common.{◌≡◌, ℕ, List, [], ◌++◌, take, subst, Option, Result, Ok, Err, MatchResult}
-use Rattle.outside.specs.Content.{told_more}
+use Rattle.streams.specs.Content.{told_more}
 use Rattle.host_model.specs.Report.{report}
-use Rattle.outside.specs.Taken.{IsTakenBut, TakesText}
-use Rattle.outside.proofs.Taking.{taken_on, last_in_part, all_told, part_told}
+use Rattle.streams.specs.Taken.{IsTakenBut, TakesText}
+use Rattle.streams.proofs.Taking.{taken_on, last_in_part, all_told, part_told}
 use Rattle.run_report.proofs.report.write_report.Goals as goal
 
 -- all lines but the pending ones were taken, and then these

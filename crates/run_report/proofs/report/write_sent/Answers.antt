@@ -1,7 +1,7 @@
 use Rattle.std.proofs.Common.{[], ◌∷◌, append_assoc, subst}
 use Rattle.host_model.specs.Report.{hex_or_dash}
-use Rattle.outside.specs.Taken.{IsTakenInPart}
-use Rattle.outside.proofs.Taking.{but_in_part, more_in_part, err_takes}
+use Rattle.streams.specs.Taken.{IsTakenInPart}
+use Rattle.streams.proofs.Taking.{but_in_part, more_in_part, err_takes}
 use Rattle.run_report.proofs.report.write_sent.Goals as goal
 
 pub returns-in_err-write_bytes-clause-told : goal.returns-in_err-write_bytes-clause-told

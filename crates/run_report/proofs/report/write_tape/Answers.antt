@@ -1,10 +1,10 @@
 use Rattle.std.proofs.Common.{◌≡◌, ◌<◌, ◌++◌, suc, List, length, ap, subst, ◌∙◌, arith}
-use Rattle.outside.specs.declared.marks.Mark.{Mark}
-use Rattle.outside.specs.Taken.{IsTakenBut}
+use Rattle.streams.specs.declared.marks.Mark.{Mark}
+use Rattle.streams.specs.Taken.{IsTakenBut}
 use Rattle.host_model.specs.Report.{mark_text, tape_lines}
 use Rattle.text_out.specs.Line.{line_of}
-use Rattle.outside.specs.Marks.{lent_mark}
-use Rattle.outside.proofs.Taking.{next_taken, next_in_part, err_takes}
+use Rattle.streams.specs.Marks.{lent_mark}
+use Rattle.streams.proofs.Taking.{next_taken, next_in_part, err_takes}
 use Rattle.run_report.proofs.report.write_tape.Goals as goal
 
 pub returns-in_err-write_mark-clause-told : goal.returns-in_err-write_mark-clause-told

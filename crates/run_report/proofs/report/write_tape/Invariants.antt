@@ -1,6 +1,6 @@
 use Rattle.std.proofs.Common.{◌≡◌, ◌++◌, length}
 use Rattle.host_model.specs.Report.{tape_lines}
-use Rattle.outside.specs.Taken.{IsTakenBut}
+use Rattle.streams.specs.Taken.{IsTakenBut}
 use Rattle.run_report.proofs.report.write_tape.Given as goal
 
 -- what is pending and the lines of the marks that are left are all that wasn't taken

@@ -1,7 +1,7 @@
 use Rattle.std.proofs.Common.{◌+◌, ◌++◌, drop, refl, subst, ◌∙◌, arith}
 use Rattle.text_out.specs.Line.{line_of}
-use Rattle.outside.specs.Taken.{IsTakenBut}
-use Rattle.outside.proofs.Taking.{next_taken, next_in_part, err_takes}
+use Rattle.streams.specs.Taken.{IsTakenBut}
+use Rattle.streams.proofs.Taking.{next_taken, next_in_part, err_takes}
 use Rattle.run_report.specs.Summary.{conn_text, conn_lines}
 use Rattle.run_report.proofs.Ended.{conns_left}
 use Rattle.run_report.proofs.summary.write_conns.Goals as goal

@@ -1,5 +1,5 @@
 use Rattle.std.proofs.Common.{◌≡◌, ◌-◌, ◌++◌, length, drop}
-use Rattle.outside.specs.Taken.{IsTakenBut}
+use Rattle.streams.specs.Taken.{IsTakenBut}
 use Rattle.run_report.specs.Summary.{conn_lines}
 use Rattle.run_report.proofs.summary.write_conns.Given as goal
 

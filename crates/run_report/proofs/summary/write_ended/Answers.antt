@@ -1,7 +1,7 @@
 use Rattle.std.proofs.Common.{◌++◌, codes}
 use Rattle.text_out.specs.Line.{line_of}
 use Rattle.host_model.specs.Report.{numbered}
-use Rattle.outside.proofs.Taking.{none_taken, next_taken, next_in_part, last_takes, err_takes}
+use Rattle.streams.proofs.Taking.{none_taken, next_taken, next_in_part, last_takes, err_takes}
 use Rattle.run_report.specs.Summary.{conn_lines}
 use Rattle.run_report.proofs.summary.write_ended.Goals as goal
 

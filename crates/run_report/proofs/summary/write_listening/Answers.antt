@@ -1,7 +1,7 @@
 use Rattle.std.proofs.Common.{◌≡◌, ◌++◌, MatchResult, ap, ◌∙◌, subst}
-use Rattle.outside.specs.Content.{told_more}
-use Rattle.outside.specs.Taken.{IsTakenInPart}
-use Rattle.outside.proofs.Taking.{none_taken}
+use Rattle.streams.specs.Content.{told_more}
+use Rattle.streams.specs.Taken.{IsTakenInPart}
+use Rattle.streams.proofs.Taking.{none_taken}
 use Rattle.run_report.specs.Summary.{listening_line}
 use Rattle.run_report.proofs.Taking.{whole_or_part}
 use Rattle.run_report.proofs.summary.write_listening.Goals as goal

@@ -1,5 +1,5 @@
 use Rattle.std.proofs.Common.{◌++◌, subst}
-use Rattle.outside.specs.Taken.{IsTakenBut}
+use Rattle.streams.specs.Taken.{IsTakenBut}
 use Rattle.run_report.specs.Summary.{summary_lines}
 use Rattle.run_report.proofs.Taking.{whole_or_part}
 use Rattle.run_report.proofs.summary.write_summary.Goals as goal

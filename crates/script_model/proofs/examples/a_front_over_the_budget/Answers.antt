@@ -1,6 +1,6 @@
 use Rattle.std.proofs.Common.{ℕ, zero, suc, ◌≤◌, pos, [], ◌∷◌, List, refl, inl, inr, arith}
-use Rattle.outside.specs.declared.marks.Mark.{Mark}
-use Rattle.outside.specs.declared.marks.Mark.TheVariants.{Opened, Read}
+use Rattle.streams.specs.declared.marks.Mark.{Mark}
+use Rattle.streams.specs.declared.marks.Mark.TheVariants.{Opened, Read}
 use Rattle.host_model.specs.TinyDesk.{size_of_one}
 use Rattle.host_model.proofs.Framing.{rest_size}
 use Rattle.machine_model.specs.AtFronts.{size_in, AreSizesBehind}

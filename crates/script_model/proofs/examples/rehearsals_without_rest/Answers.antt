@@ -1,5 +1,5 @@
 use Rattle.std.proofs.Common.{[], ◌∷◌, ◌++◌, refl, arith}
-use Rattle.outside.specs.declared.marks.Mark.TheVariants.{Ended, Closed}
+use Rattle.streams.specs.declared.marks.Mark.TheVariants.{Ended, Closed}
 use Rattle.host_model.specs.TinyDesk.{tiny_desk, tiny_entry}
 use Rattle.script_model.specs.ScriptLines.{opening, piece, input_end, turn_of_conn, turn_of_worker}
 use Rattle.script_model.specs.Rows.{frame_of_one}

@@ -1,6 +1,6 @@
 use Rattle.std.proofs.Common.{◌≤◌, [], ◌∷◌, refl, arith}
 use Rattle.std.proofs.lemmas.Bool.{false≢true}
-use Rattle.outside.specs.declared.marks.Mark.TheVariants.{Opened, Read, Closed}
+use Rattle.streams.specs.declared.marks.Mark.TheVariants.{Opened, Read, Closed}
 use Rattle.host_model.specs.Journal.{entries_of}
 use Rattle.host_model.specs.TinyDesk.{tiny_desk, size_of_one}
 use Rattle.script_model.specs.ScriptLines.{opening, piece, input_end}

@@ -1,5 +1,5 @@
 use Rattle.std.proofs.Common.{◌≡◌, ℕ, ◌<◌, [], ◌∷◌, slice_get, refl, sym, subst, arith}
-use Rattle.outside.specs.declared.marks.Mark.TheVariants.{Opened, Read, Ended, Wrote, Closed}
+use Rattle.streams.specs.declared.marks.Mark.TheVariants.{Opened, Read, Ended, Wrote, Closed}
 use Rattle.host_model.specs.declared.cause.EndCause.TheVariants.{End}
 use Rattle.host_model.specs.TinyDesk.{tiny_desk, counting, tiny_entry, size_of_one}
 use Rattle.machine_model.specs.Tiny.{tiny_hall}

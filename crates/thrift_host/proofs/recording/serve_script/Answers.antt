@@ -1,5 +1,5 @@
 use Rattle.std.proofs.Common.{Err, map, refl}
-use Rattle.outside.proofs.Causes.{on_ok}
+use Rattle.streams.proofs.Causes.{on_ok}
 use Rattle.processor.specs.Offices.{plain_office}
 use Rattle.command_line.specs.Answering.{plain_served}
 use Rattle.recorded_runs.specs.Recorded.{Streams}

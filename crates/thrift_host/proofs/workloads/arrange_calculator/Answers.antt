@@ -1,4 +1,4 @@
-use Rattle.outside.proofs.Causes.{on_ok}
+use Rattle.streams.proofs.Causes.{on_ok}
 use Rattle.thrift_host.proofs.workloads.arrange_calculator.Goals as goal
 
 pub returns-in-Ok-clause-files_kept : goal.returns-in-Ok-clause-files_kept

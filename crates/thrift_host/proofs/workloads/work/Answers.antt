@@ -1,5 +1,5 @@
 use Rattle.std.proofs.Common.{Err, map}
-use Rattle.outside.proofs.Causes.{on_ok}
+use Rattle.streams.proofs.Causes.{on_ok}
 use Rattle.command_line.specs.Answering.{plain_served}
 use Rattle.recorded_runs.specs.declared.fault.ServingFault.TheVariants.{WriteFault}
 use Rattle.thrift_host.proofs.Told.{workload_tells, run_reads, run_fault, run_kept}

@@ -1,7 +1,7 @@
 use Rattle.std.proofs.Common.{◌≡◌, ◌+◌, ◌<◌, length, ap, ◌∙◌, sym, refl, subst, arith}
 use Rattle.std.proofs.lemmas.List.{length_push}
 use Rattle.std.proofs.lemmas.Option.{get_or_from_slice_get}
-use Rattle.outside.specs.declared.marks.Mark.TheVariants.{WriteFailed}
+use Rattle.streams.specs.declared.marks.Mark.TheVariants.{WriteFailed}
 use Rattle.host_model.specs.declared.cause.EndCause.TheVariants.{WriteFault}
 use Rattle.conn_table.specs.Table.{slot_of}
 use Rattle.cell_loop.specs.declared.loop_part.CellStage.TheVariants.{Lean}

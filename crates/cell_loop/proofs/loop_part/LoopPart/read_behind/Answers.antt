@@ -1,5 +1,5 @@
 use Rattle.std.proofs.Common.{◌≡◌, Some, IsSome, slice_index_or, option_map, length, Vec, Global, ap, ◌∙◌, sym, refl, subst}
-use Rattle.outside.specs.declared.marks.Mark.TheVariants.{Ended, ReadFailed}
+use Rattle.streams.specs.declared.marks.Mark.TheVariants.{Ended, ReadFailed}
 use Rattle.host_model.specs.declared.cause.EndCause.{EndCause}
 use Rattle.host_model.specs.declared.cause.EndCause.TheVariants.{ReadFault}
 use Rattle.conn_state.specs.Phase.{ConnView, cause_of}

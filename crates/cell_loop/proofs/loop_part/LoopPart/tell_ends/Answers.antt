@@ -1,6 +1,6 @@
 use Rattle.std.proofs.Common.{Vec, Global, ◌≡◌, ◌++◌, ◌<◌, ◌≤◌, length, take, slice_index_or, ap, ◌∙◌, refl, arith}
 use Rattle.std.specs.Vec.{vec_capacity}
-use Rattle.outside.specs.Rows.{TapeView}
+use Rattle.streams.specs.Rows.{TapeView}
 use Rattle.cell_loop.specs.declared.loop_part.CellStage.{CellStage}
 use Rattle.cell_loop.specs.declared.loop_part.CellStage.TheVariants.{Lean}
 use Rattle.cell_loop.specs.Closing.{end_told}

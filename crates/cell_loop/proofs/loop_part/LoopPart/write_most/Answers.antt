@@ -1,6 +1,6 @@
 use Rattle.std.proofs.Common.{Vec, Global, List, [], ◌∷◌, ◌++◌, length, ap, ◌∙◌}
-use Rattle.outside.specs.declared.marks.Mark.{Mark}
-use Rattle.outside.specs.declared.marks.Mark.TheVariants.{Wrote}
+use Rattle.streams.specs.declared.marks.Mark.{Mark}
+use Rattle.streams.specs.declared.marks.Mark.TheVariants.{Wrote}
 use Rattle.conn_table.specs.Table.{TableView}
 use Rattle.conn_table.proofs.Rising.{count_put}
 use Rattle.cell_loop.specs.declared.loop_part.CellStage.{CellStage}

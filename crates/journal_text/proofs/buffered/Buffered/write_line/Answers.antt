@@ -1,5 +1,5 @@
 use Rattle.journal_text.specs.EntryText.{call_line}
-use Rattle.outside.proofs.Causes.{cause_on}
+use Rattle.streams.proofs.Causes.{cause_on}
 use Rattle.journal_text.proofs.Written.{line_broken, cut_result, line_flushed}
 use Rattle.journal_text.proofs.Handing.{cause_of_break}
 use Rattle.journal_text.proofs.buffered.Buffered.write_line.Goals as goal

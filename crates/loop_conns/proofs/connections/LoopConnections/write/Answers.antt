@@ -1,6 +1,6 @@
 use Rattle.std.proofs.Common.{◌≡◌, ℕ, List, [], ◌∷◌, ◌<◌, ◌≤◌, ◌-◌, length, take, refl, sym, ap, ◌∙◌, subst, arith}
 use Rattle.outside.specs.declared.answers.Taken.TheVariants.{Bytes, End, NotYet, Failed, NoMemory}
-use Rattle.outside.specs.declared.marks.Mark.TheVariants.{Wrote}
+use Rattle.streams.specs.declared.marks.Mark.TheVariants.{Wrote}
 use Rattle.host_model.specs.declared.cause.EndCause.TheVariants.{WriteFault, NoMemory as LackOfMemory}
 use Rattle.conn_state.specs.Phase.{ConnView, left_to_write, IsReading}
 use Rattle.conn_table.specs.Table.{TableView, slot_of}

@@ -1,5 +1,5 @@
 use Rattle.std.proofs.Common.{◌≡◌, ◌≤◌, true, false, sym, ap, subst, ◌∙◌}
-use Rattle.outside.specs.Cause.{Rose}
+use Rattle.streams.specs.Cause.{Rose}
 use Rattle.port_serving.proofs.Filing.{unused_still, said_failed, said_empty, said_kept}
 use Rattle.port_serving.proofs.file_journal.FileJournal.finish.Goals as goal
 

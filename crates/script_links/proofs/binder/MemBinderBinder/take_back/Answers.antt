@@ -1,5 +1,5 @@
 use Rattle.std.proofs.Common.{◌≡◌, [], ◌∷◌, ◌++◌, Some, ap, ◌∙◌}
-use Rattle.outside.specs.Cause.{next_if_faulty}
+use Rattle.streams.specs.Cause.{next_if_faulty}
 use Rattle.script_links.specs.Listens.{ListeningScript}
 use Rattle.script_links.specs.Binding.{BinderState}
 use Rattle.script_links.specs.Past.{past_in_chain}

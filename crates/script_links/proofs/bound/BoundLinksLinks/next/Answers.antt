@@ -1,5 +1,5 @@
 use Rattle.std.proofs.Common.{◌≡◌, ◌≤◌, ℕ, Ok, Err, length, sym, ap, ◌∙◌, subst, arith}
-use Rattle.outside.specs.declared.streams.Failed.{Failed}
+use Rattle.streams.specs.declared.streams.Failed.{Failed}
 use Rattle.outside.specs.declared.answers.Hint.{Hint}
 use Rattle.outside.specs.Asking.{AnswersAsk}
 use Rattle.outside.specs.LinksState.{Listening}

@@ -3,7 +3,7 @@ use Rattle.std.specs.Prelude.{◌||◌}
 use Rattle.std.proofs.Math.Seq.{take-add}
 use Rattle.std.proofs.lemmas.List.{drop-drop}
 use Rattle.outside.specs.Pipes.{Receives, is_end}
-use Rattle.outside.specs.declared.streams.Failed.{Failed}
+use Rattle.streams.specs.declared.streams.Failed.{Failed}
 use Rattle.script_links.specs.Failing.{after_counting}
 use Rattle.script_links.specs.Answering.{AnsweringPipe, mem_pipe_told, after_receiving}
 use Rattle.script_links.proofs.Piping.{receives_so}

@@ -5,7 +5,7 @@ use Rattle.script_links.specs.Shown.{links_told}
 use Rattle.script_links.proofs.Connected.{open_is_there}
 use Rattle.script_links.proofs.Keeping.{sound_at}
 use Rattle.std.proofs.Common.{Ok}
-use Rattle.outside.specs.declared.streams.Failed.{Failed}
+use Rattle.streams.specs.declared.streams.Failed.{Failed}
 use Rattle.outside.specs.declared.answers.Hint.{Hint}
 use Rattle.outside.specs.Asking.{AnswersAsk}
 use Rattle.script_links.specs.Plain.{Next, next_of, hint_of}

@@ -2,7 +2,7 @@ use Rattle.std.proofs.Common.{◌≡◌, ℕ, suc, ◌+◌, ◌*◌, ◌<◌, �
 use Rattle.std.proofs.lemmas.Bool.{not-false, not-true}
 use Rattle.std.specs.Vec.{vec_capacity}
 use Rattle.script_links.specs.Kept.{served_of, plain_links}
-use Rattle.outside.specs.declared.marks.Mark.TheVariants.{Opened as OpenedMark}
+use Rattle.streams.specs.declared.marks.Mark.TheVariants.{Opened as OpenedMark}
 use Rattle.outside.specs.declared.answers.Hint.TheVariants.{Opened}
 use Rattle.script_links.specs.declared.step.Came.TheVariants.{Gives, GoesOn}
 use Rattle.script_links.specs.ServedScript.{ServedScript, link_at, is_coming, marks_owed_at}

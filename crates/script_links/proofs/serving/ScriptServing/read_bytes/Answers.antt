@@ -4,7 +4,7 @@ use Rattle.std.specs.Vec.{vec_capacity}
 use Rattle.script_links.specs.ServedScript.{ServedScript, PlainLink, link_at, with_link, is_open_at, marks_owed, marks_owed_at}
 use Rattle.script_links.specs.Kept.{served_of, plain_link, plain_links}
 use Rattle.script_links.proofs.Connected.{open_is_there}
-use Rattle.outside.specs.declared.marks.Mark.TheVariants.{Read}
+use Rattle.streams.specs.declared.marks.Mark.TheVariants.{Read}
 use Rattle.script_links.specs.Plain.{with_bytes_read, oldest_of}
 use Rattle.script_links.proofs.Keeping.{extra_room, sound_at, read_sound, read_stands, one_longer, IsCopied, copied, front_copied}
 use Rattle.script_links.proofs.Reading.{oldest_is}

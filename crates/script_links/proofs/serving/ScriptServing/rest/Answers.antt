@@ -3,7 +3,7 @@ use Rattle.std.specs.Vec.{vec_capacity}
 use Rattle.script_links.specs.Kept.{served_of, plain_links}
 use Rattle.std.proofs.Common.{◌++◌}
 use Rattle.std.specs.List.{count_by}
-use Rattle.outside.specs.declared.marks.Mark.{Mark}
+use Rattle.streams.specs.declared.marks.Mark.{Mark}
 use Rattle.script_links.specs.declared.step.Came.TheVariants.{GoesOn, Waits}
 use Rattle.script_links.specs.ServedScript.{ServedScript}
 use Rattle.script_links.specs.Steps.{is_rest}

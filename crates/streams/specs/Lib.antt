@@ -1,0 +1,11 @@
+pub mod Cause
+pub mod Content
+pub mod Counts
+pub mod Files
+pub mod Making
+pub mod Memory
+pub mod Places
+pub mod Taken
+pub mod Marks
+pub mod Rows
+pub mod Told
