@@ -7,8 +7,8 @@ ghost use Rattle.call_rules.specs.Entries.{CallEntry};
 ghost use Rattle.call_rules.specs.PlainCalls.{IsPlainCall, IsPlainAnswer};
 
 use crate::call::Entry;
-use streams::Failed;
 use std::alloc::AllocError;
+use streams::Failed;
 
 /// Where calls are entered with their answers, in the order in which they took effect.
 pub trait Journal {

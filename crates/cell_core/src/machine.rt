@@ -17,8 +17,8 @@ use call_rules::{Desk, Handler, Journal, Key};
 use cell_loop::move_laws::moves_are_reached;
 use cell_loop::{CellStage, LoopPart};
 use hall_core::{Hall, HallReply};
-use streams::{Bytes, Settled};
 use std::alloc::{AllocError, Global};
+use streams::{Bytes, Settled};
 
 /// The machine of loop, hall and workers.
 #[derive(Drop)]

@@ -5,8 +5,8 @@ ghost use Rattle.streams.specs.Marks.{lent_mark};
 ghost use Rattle.cell_core.specs.Rehearsed.{AreWritten, rows_behind};
 
 use lists::Listed;
-use streams::{Bytes, Cursor, MarkAt};
 use std::alloc::{AllocError, Global};
+use streams::{Bytes, Cursor, MarkAt};
 
 /// The bytes that were written to each connection, by number; contracts see a list of lists.
 pub type Outs = Listed<Bytes>;

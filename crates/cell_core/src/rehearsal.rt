@@ -23,10 +23,10 @@ use call_rules::{Desk, Handler, Journal};
 use cell_loop::LoopPart;
 use conn_table::{Ends, Limits, Outcome};
 use hall_core::Hall;
-use streams::Tape;
 use script_text::Script;
 use script_text::laws::{kept_scripts_let_all_end, scripts_are_sound};
 use std::alloc::{AllocError, Global};
+use streams::Tape;
 
 /// What a rehearsal came to.
 #[derive(Drop)]

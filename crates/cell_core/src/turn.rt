@@ -19,9 +19,9 @@ use crate::stop::RunStop;
 use crate::worker::{Given, Holding};
 use call_rules::{Desk, Handler, Journal, Key};
 use hall_core::{Hall, HallOp, HallReply, Job, NextStep, next_step, settled_with};
-use streams::Settled;
 use seat_booth::Object;
 use std::alloc::Global;
+use streams::Settled;
 
 /// What a worker's step came to.
 #[derive(Clone, Copy)]

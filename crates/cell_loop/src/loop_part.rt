@@ -24,9 +24,9 @@ use crate::feed::Feed;
 use conn_state::EndCause;
 use conn_table::Table;
 use limits::MOST_CONNECTIONS;
-use streams::{MarkAt, Settled, TapeLog};
 use script_text::RuleList;
 use std::alloc::{AllocError, Global};
+use streams::{MarkAt, Settled, TapeLog};
 
 /// So many marks have room before a move: one of the move, and two for each connection that is open behind it.
 const ROOM: usize = 1 + 2 * MOST_CONNECTIONS;

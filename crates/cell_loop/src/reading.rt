@@ -17,8 +17,8 @@ ghost use Rattle.call_rules.specs.Desks.{longest_payload};
 use crate::feed::InputEnd;
 use crate::loop_part::{CellStage, LoopPart};
 use conn_state::EndCause;
-use streams::MarkAt;
 use std::alloc::{AllocError, Global};
+use streams::MarkAt;
 
 /// So many frames are counted at most.
 const MOST_FRAMES: u64 = 1 << 62;

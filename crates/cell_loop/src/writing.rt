@@ -16,9 +16,9 @@ ghost use Rattle.cell_loop.specs.LoopMoves.{IsLoopUnderWay, StaysTied, LoopMoves
 
 use crate::loop_part::LoopPart;
 use conn_state::EndCause;
-use streams::MarkAt;
 use script_text::WriteRule;
 use std::alloc::AllocError;
+use streams::MarkAt;
 
 impl<'a> LoopPart<'a> {
     /// One write of a reply that is left, by the next rule.

@@ -3,8 +3,8 @@
 ghost use Rattle.std.specs.Prelude.{◌≡◌};
 ghost use Rattle.client_desk.specs.HeardFaults.{fault_of_skew, fault_of_wire};
 
-use streams::EnvelopeFault;
 use std::alloc::AllocError;
+use streams::EnvelopeFault;
 use struct_skew::SkewFault;
 use thiserror::Error;
 use thrift_value::WireFault;

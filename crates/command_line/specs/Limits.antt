@@ -1,5 +1,6 @@
 -- The limits that options set: the longest payload and the read budget.
 use Rattle.std.specs.Prelude.{ℕ, nat_le, ◌&&◌, List, [], ◌∷◌, codes, Option, None, Some, option_and_then, if◌then◌else◌}
+use Rattle.limits.specs.Limits.{usual_payload}
 use Rattle.call_rules.specs.Desks.{longest_payload}
 use Rattle.conn_table.specs.declared.run_limits.Limits.{Limits}
 use Rattle.command_line.specs.Numbers.{number_of_word}
@@ -20,7 +21,7 @@ limits_of_numbers most budget =
 abbrev pub limits_given : List (List ℕ) → List (List ℕ) → Option Limits
 limits_given max_frames read_budgets =
     option_and_then (λ most. option_and_then (λ budget. limits_of_numbers most budget) (number_given longest_payload read_budgets))
-    (number_given 16384000 max_frames)
+    (number_given usual_payload max_frames)
 
 -- the limits that are said
 abbrev pub limits_said : Sayings → Option Limits

@@ -8,10 +8,7 @@ ghost use Rattle.command_line.specs.Limits.{limits_given, limits_of_numbers, lim
 use crate::numbers::number_of_word;
 use crate::sorting::Sorted;
 use conn_table::Limits;
-use limits::LONGEST_PAYLOAD;
-
-/// The longest payload where the words don't say it, in bytes.
-const USUAL_MAX_FRAME: u64 = 16_384_000;
+use limits::{LONGEST_PAYLOAD, USUAL_PAYLOAD};
 
 /// The number of an option that may be left out.
 fn number_given(values: &[&str], usual: u64) -> Option<u64>
@@ -47,7 +44,7 @@ fn limits_of_numbers(most: u64, budget: u64) -> Option<Limits>
 fn limits_given(max_frames: &[&str], read_budgets: &[&str]) -> Option<Limits>
     ensures { result ≡ limits_given (lent_words max_frames.now) (lent_words read_budgets.now) }
 {
-    let most = number_given(max_frames, USUAL_MAX_FRAME)?;
+    let most = number_given(max_frames, u64::from(USUAL_PAYLOAD))?;
     let budget = number_given(read_budgets, LONGEST_PAYLOAD)?;
     limits_of_numbers(most, budget)
 }

@@ -9,10 +9,10 @@ ghost use Rattle.conn_state.specs.Inside.{phase_of, IsSoundState};
 use super::size_bytes::SizeBytes;
 use host_model::EndCause;
 use limits::MOST_READ;
-use streams::{Bytes, Settled};
 use std::alloc::{AllocError, Global};
 use std::marker::Model;
 use std::mem;
+use streams::{Bytes, Settled};
 
 /// What a connection is doing.
 #[derive(Drop)]

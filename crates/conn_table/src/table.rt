@@ -10,9 +10,9 @@ ghost use Rattle.conn_table.specs.Table.{fresh_slot, slot_of, with_state, with_s
 use crate::places::{Places, Slot};
 use conn_state::{Conn, EndCause};
 use limits::MOST_CONNECTIONS;
-use streams::Settled;
 use std::alloc::{AllocError, Global};
 use std::marker::Model;
+use streams::Settled;
 
 /// The open connections, at most 1,024, and the sizes of their frames that are admitted, within one budget.
 pub struct Table {

@@ -2,9 +2,9 @@
 
 ghost use Rattle.std.specs.Prelude.{◌≡◌};
 
-use streams::EnvelopeFault;
 use std::alloc::AllocError;
 use std::marker::Model;
+use streams::EnvelopeFault;
 use thiserror::Error;
 use thrift_value::ByteText;
 use wire_num::NumFault;

@@ -10,8 +10,8 @@ ghost use Rattle.envelope.specs.Readout.{name_of, strict_head, old_head, sized_n
 use super::head::{
     COMPACT_MARK, COMPACT_VERSION, Head, HeadFault, LentHead, Protocol, STRICT_VERSION,
 };
-use streams::EnvelopeFault;
 use std::alloc::Global;
+use streams::EnvelopeFault;
 use thrift_value::ByteText;
 use wire_num::{decode_bytes, decode_i32, decode_u8, decode_varint32};
 

@@ -5,8 +5,8 @@ ghost use Rattle.envelope.specs.Readout.{reply_head_at, IsHead, IsHeadOrNoMemory
 
 use super::head::{Head, HeadFault, LentHead, Protocol};
 use super::read::{kept, whole_head};
-use streams::EnvelopeFault;
 use std::alloc::Global;
+use streams::EnvelopeFault;
 
 /// The type of a reply.
 const REPLY: u8 = 2;

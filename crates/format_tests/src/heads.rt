@@ -2,9 +2,9 @@
 
 use crate::{compact_head_vectors, head_vectors};
 use envelope::{HeadFault, Protocol, read_head, write_head};
-use streams::EnvelopeFault::{self, MessageType, Short};
 use std::alloc::{AllocError, Global};
 use std::test::Fail;
+use streams::EnvelopeFault::{self, MessageType, Short};
 
 /// The bytes of a payload, and of its head the name, the type, the sequence id and the place behind it.
 type Row = (&'static [u8], &'static [u8], u8, i32, usize);

@@ -4,8 +4,8 @@ ghost use Rattle.std.specs.Prelude.{IfOk};
 ghost use Rattle.idl_include.specs.SourcesOf.{AreFiles, sources_in};
 
 use idl_include::{LoadFault, Sources, load};
-use streams::MemFiles;
 use std::alloc::{AllocError, Global};
+use streams::MemFiles;
 
 /// A file's name and its text.
 pub(crate) type Held = (&'static str, &'static str);

@@ -1,9 +1,9 @@
 //! The system's streams and files, of which no contract tells what they give and take.
 
-use streams::{Failed, FileFail, Files, RealFiles, RealIn, RealOut, Sink, Source, write_all};
 use std::alloc::Global;
 use std::io;
 use std::test::Fail;
+use streams::{Failed, FileFail, Files, RealFiles, RealIn, RealOut, Sink, Source, write_all};
 
 /// A writer that takes nothing.
 #[derive(Drop)]

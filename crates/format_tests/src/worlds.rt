@@ -5,10 +5,10 @@ use host_model::plain::{
     Decided, PlainDesk, PlainEntry, PlainServices, after, called, entries_of, input, is_legal,
     marks_of, output, sent, split,
 };
-use streams::{Bytes, EnvelopeFault, Mark};
 use std::alloc::{AllocError, Global};
 use std::process::Abort;
 use std::test::Fail;
+use streams::{Bytes, EnvelopeFault, Mark};
 
 /// The desk of the examples: call 10 is replied to with its answer, twice, and call 11 isn't.
 struct Tiny;

@@ -14,8 +14,8 @@ ghost use Rattle.hall_core.specs.Asked.{answer_of};
 
 use crate::operation::HallReply;
 use call_rules::{Answer, Call, Entry, Handler, Journal, Key};
-use streams::Failed;
 use std::alloc::{AllocError, Global};
+use streams::Failed;
 use thrift_value::Value;
 
 /// What a handler does for a hall. A handler may be sent to other threads, which a step asks nothing of.

@@ -9,10 +9,10 @@ use crate::operation::{HallOp, HallReply};
 use crate::queue::Queue;
 use crate::queueing::{collect, put, submit, take};
 use call_rules::{Handler, Journal, Key};
-use streams::{Bytes, Settled};
 use seat_booth::Object;
 use std::alloc::Global;
 use std::marker::Model;
+use streams::{Bytes, Settled};
 
 /// A queue of jobs with the services that answer their calls, and the journal of these calls.
 #[derive(Drop)]

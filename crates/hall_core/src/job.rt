@@ -1,8 +1,8 @@
 //! A job, as it waits in a hall and as a worker holds it.
 
 use call_rules::Key;
-use streams::Bytes;
 use std::marker::Model;
+use streams::Bytes;
 
 /// A payload, under the key of its frame.
 #[derive(Drop)]

@@ -9,10 +9,10 @@ ghost use Rattle.hall_core.specs.Queues.{keys_held};
 use crate::job::Job;
 use call_rules::Key;
 use limits::MOST_CONNECTIONS;
-use streams::{Bytes, Settled};
 use std::alloc::{AllocError, Global};
 use std::collections::VecDeque;
 use std::marker::Model;
+use streams::{Bytes, Settled};
 
 /// A job's outcome.
 #[derive(Drop)]

@@ -10,8 +10,8 @@ ghost use Rattle.hall_core.specs.NextSteps.{IsNextFor};
 
 use crate::job::Job;
 use call_rules::{Answer, Call, Decision, Desk};
-use streams::{Bytes, Settled};
 use std::alloc::Global;
+use streams::{Bytes, Settled};
 
 /// What is next for a job that was taken.
 #[derive(Drop)]

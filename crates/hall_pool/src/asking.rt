@@ -14,9 +14,9 @@ ghost use Rattle.hall_pool.specs.Jobs.{IsOpenedNew, AddsAsk, HoldsJob, TriesCall
 use crate::turn::Turn;
 use call_rules::{Answer, Call, Handler, Journal, Key};
 use hall_core::{Hall, HallOp, HallReply, Job};
-use streams::Settled;
 use seat_booth::{Booth, Seat};
 use std::sync::Wait;
+use streams::Settled;
 
 /// What has come of a call that was applied.
 #[derive(Drop)]

@@ -8,10 +8,10 @@ ghost use Rattle.hall_pool.specs.Jobs.{IsOpenedFor, HoldsJob, SettlesJob};
 use crate::asking::{Tried, apply};
 use call_rules::{Call, Desk, Handler, Journal};
 use hall_core::{Hall, Job, NextStep, next_step, settled_with};
-use streams::Settled;
 use seat_booth::{Booth, Seat};
 use std::alloc::Global;
 use std::sync::Wait;
+use streams::Settled;
 
 /// What a job comes to whose payload makes this call; nothing where the journal has failed at it.
 fn called<D: Desk, H: Handler, J: Journal, R: Wait>(

@@ -13,9 +13,9 @@ ghost use Rattle.host_loop.specs.Asked.{took_so, SubmitsJob, collected_reply, Co
 
 use call_rules::{Handler, Journal, Key};
 use hall_core::{Hall, HallOp, HallReply};
-use streams::{Bytes, Settled};
 use seat_booth::{Booth, Seat};
 use std::sync::Wait;
+use streams::{Bytes, Settled};
 
 /// What has come of a try to collect an outcome.
 #[derive(Drop)]

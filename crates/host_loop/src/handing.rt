@@ -11,9 +11,9 @@ use call_rules::{Desk, Handler, Journal, Key};
 use conn_table::Outcome;
 use hall_core::Hall;
 use outside::Links;
-use streams::Bytes;
 use seat_booth::Object;
 use std::sync::Wait;
+use streams::Bytes;
 
 /// Rings the door, where workers wait at it. It answers whether there was memory for the ring.
 fn ring_door<O: Object, D, G, L: Links, R: Wait>(rt: &R, run: &Run<O, D, G, L>) -> bool {

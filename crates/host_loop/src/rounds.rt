@@ -10,8 +10,8 @@ use call_rules::{Desk, Handler, Journal};
 use conn_table::Outcome;
 use hall_core::Hall;
 use outside::{Gate, Hint, Links};
-use streams::Failed;
 use std::sync::Wait;
+use streams::Failed;
 
 impl<H: Handler, J: Journal> Serving<Hall<H, J>> {
     /// Does what the links gave a hint of. It answers whether there is more to be done: there is none where all is over.

@@ -4,12 +4,12 @@ use calculator::Calculator;
 use call_rules::Handler;
 use house_handlers::{Mirror, Store};
 use outside::{Binder, EmptyGate, Gate};
-use streams::{Files, MemFiles, MemSink, MemSource, Sink, Source};
 use script_links::MemBinder;
 use script_text::read_script;
 use std::alloc::{AllocError, Global};
 use std::sync::Wait;
 use std::thread::Threads;
+use streams::{Files, MemFiles, MemSink, MemSource, Sink, Source};
 use thrift_host::{Status, host};
 
 /// The name of a journal's file.

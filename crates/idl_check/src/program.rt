@@ -22,9 +22,9 @@ use check_passes::CheckFault;
 use idl_include::laws::each_file_is_read_as_one_thing;
 use idl_include::{IdlFile, LoadFault, LoadKind, Sources, load};
 use idl_token::Place;
-use streams::Files;
 use schema::Schema;
 use std::alloc::{AllocError, Global};
+use streams::Files;
 
 /// The text of the schema of the IDL of this name.
 ///

@@ -3,8 +3,8 @@
 ghost use Rattle.std.specs.Prelude.{◌≡◌, string_bytes, IfOk};
 ghost use Rattle.idl_check.specs.Tutorial.{tutorial_file_text, shared_text, tutorial_files};
 
-use streams::MemFiles;
 use std::alloc::{AllocError, Global};
+use streams::MemFiles;
 
 /// The text of tutorial.thrift without its comments.
 const TUTORIAL: &[u8] = br#"include "shared.thrift"

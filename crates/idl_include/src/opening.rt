@@ -15,8 +15,8 @@ use crate::sources::IdlFile;
 use idl_parser::{Document, Include};
 use idl_token::Place;
 use lists::ByteText;
-use streams::Files;
 use std::alloc::{AllocError, Global};
+use streams::Files;
 
 /// How many files a program has at most.
 pub(crate) const MAX_FILES: usize = 256;

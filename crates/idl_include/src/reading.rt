@@ -13,8 +13,8 @@ use crate::faults::{LoadKind, LoadStop, NOWHERE, stop_at};
 use crate::laws::each_file_is_read_as_one_thing;
 use idl_parser::{Document, ParseFault, ParseKind, parse};
 use idl_token::{LONGEST_IDL_TEXT, LexFault, LexKind, Token, tokens};
-use streams::{FileFail, Files};
 use std::alloc::Global;
+use streams::{FileFail, Files};
 
 /// The document of the file of this name.
 pub(crate) fn read_file<F: Files>(

@@ -16,9 +16,9 @@ use crate::meanings::{IncludeMeaning, include_meaning};
 use crate::opening::{MAX_FILES, WantedFile, begin_file};
 use crate::sources::{IdlFile, Sources};
 use lists::ByteText;
-use streams::Files;
 use std::alloc::{AllocError, Global};
 use std::collections::VecDeque;
+use streams::Files;
 
 /// The program of the main file of this name, or its first fault. The answer is what the definitions make of the
 /// files' content, with the documents that were read. A file that couldn't be read is one at which loading stops where it

@@ -3,11 +3,9 @@
 ghost use Rattle.std.specs.Prelude.{◌≡◌, IfOk};
 ghost use Rattle.schema.specs.PlainKind.{kind_of, kind_map, kind_set, kind_list};
 
+use limits::MOST_TYPE_LEVELS;
 use schema::TypeDesc;
 use std::alloc::{AllocError, Global};
-
-/// The most levels of a type that is made: 1,000 containers in one another, and what stands in the innermost.
-pub(crate) const MAX_LEVELS: u32 = 1_001;
 
 /// The most types that are made for one program, each with all that stand in it.
 pub const MOST_TYPES: u32 = 4_000_000;
@@ -90,5 +88,5 @@ pub(crate) fn copied(
 pub fn copy_type(alloc: Global, kind: &TypeDesc, room: &mut u32) -> Result<TypeDesc, AllocError>
     ensures { IfOk result (λ copy. kind_of copy ≡ kind_of kind.now) }
 {
-    copied(alloc, kind, MAX_LEVELS, room)
+    copied(alloc, kind, MOST_TYPE_LEVELS, room)
 }

@@ -9,9 +9,10 @@ ghost use Rattle.schema.specs.PlainKind.{kind_of};
 ghost use Rattle.check_model.specs.Resolved.{base_kind, named_kind, kind_by, TypeMeans};
 ghost use Rattle.idl_types.specs.Known.{known_kind, AreAliasTypes};
 
-use crate::copies::{MAX_LEVELS, copied, enter, list_of, map_of, set_of};
+use crate::copies::{copied, enter, list_of, map_of, set_of};
 use idl_names::{NameTables, TypeName};
 use idl_parser::{Base, TypeTree};
+use limits::MOST_TYPE_LEVELS;
 use schema::TypeDesc;
 use std::alloc::{AllocError, Global};
 
@@ -131,5 +132,5 @@ pub fn type_meant(
     requires { AreAliasTypes (program_in tables.now.names.now) tables.now.aliases.now }
     ensures { IfOk result (λ kind. TypeMeans (program_in tables.now.names.now) file (type_in tree.now) (kind_of kind)) }
 {
-    type_by(alloc, tables, file, tree, MAX_LEVELS, room)
+    type_by(alloc, tables, file, tree, MOST_TYPE_LEVELS, room)
 }

@@ -9,8 +9,8 @@ ghost use Rattle.journal_text.specs.JournalStates.{IsCutShort};
 
 use crate::spelling::spell_entry;
 use call_rules::Entry;
-use streams::{Failed, Sink, write_all};
 use std::alloc::Global;
+use streams::{Failed, Sink, write_all};
 
 /// A sink and bytes on their way to it.
 #[derive(Drop)]

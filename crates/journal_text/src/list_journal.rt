@@ -5,9 +5,9 @@ ghost use Rattle.streams.specs.Cause.{HasCause};
 ghost use Rattle.call_rules.specs.PlainCalls.{IsPlainCall, IsPlainAnswer};
 
 use call_rules::{Entry, Journal};
-use streams::Failed;
 use std::alloc::{AllocError, Global};
 use std::marker::Model;
+use streams::Failed;
 
 /// A journal that keeps its entries in memory. It never fails.
 #[derive(Drop)]

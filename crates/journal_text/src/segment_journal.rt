@@ -14,11 +14,11 @@ ghost use Rattle.journal_text.specs.Segments.{chained, segment_room, IsFull, IsS
 
 use crate::spelling::spell_entries;
 use call_rules::{Entry, Journal};
-use streams::{Failed, Sink};
 use std::alloc::{AllocError, Global};
 use std::collections::VecDeque;
 use std::marker::Model;
 use std::mem;
+use streams::{Failed, Sink};
 
 /// How many entries a segment has room for.
 const SEGMENT: usize = 1024;

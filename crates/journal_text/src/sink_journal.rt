@@ -7,13 +7,13 @@ ghost use Rattle.call_rules.specs.PlainCalls.{IsPlainCall, IsPlainAnswer};
 ghost use Rattle.journal_text.specs.EntryText.{call_line};
 ghost use Rattle.journal_text.specs.JournalStates.{appended_count, HasLines, IsCutShort};
 
-use lists::Appended;
 use crate::buffered::Buffered;
 use call_rules::{Entry, Journal};
-use streams::{Failed, Sink};
+use lists::Appended;
 use std::alloc::{AllocError, Global};
 use std::marker::Model;
 use std::snapshot::Snapshot;
+use streams::{Failed, Sink};
 
 /// How many bytes are held at most.
 const MOST_HELD: usize = 4096;

@@ -10,15 +10,15 @@ ghost use Rattle.journal_text.specs.EntryText.{entry_text};
 ghost use Rattle.journal_text.specs.JournalStates.{appended_count, IsCutShort};
 ghost use Rattle.journal_text.specs.Spooled.{HasLinesWith, HasSomeLines};
 
-use lists::Appended;
 use crate::buffered::Buffered;
 use crate::sink_journal::NoJournal;
 use crate::spelling::spell_entry;
 use call_rules::{Entry, Journal};
-use streams::{Failed, Sink};
+use lists::Appended;
 use std::alloc::{AllocError, Global};
 use std::marker::Model;
 use std::snapshot::Snapshot;
+use streams::{Failed, Sink};
 
 /// How many bytes are held at most.
 const MOST_HELD: usize = 65_536;

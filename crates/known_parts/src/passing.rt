@@ -1,5 +1,6 @@
 //! Passing over elements, without memory.
 ghost use Rattle.std.specs.Prelude.{◌≤◌};
+ghost use Rattle.limits.specs.Limits.{most_levels};
 ghost use Rattle.wire_model.specs.Answering.{AnswersExactly};
 ghost use Rattle.wire_model.specs.AtPlace.{passed_over};
 ghost use Rattle.wire_model.specs.Reading.{value, item_list, pair_list};
@@ -15,7 +16,7 @@ pub(crate) fn pass_items<'a, W: Wire>(
     tag: Tag,
     count: u32,
 ) -> Result<Rest<'a>, WireFault>
-    requires { levels ≤ 64 }
+    requires { levels ≤ most_levels }
     ensures { AnswersExactly (λ r. r) result (passed_over (item_list (value W.wire levels) tag count rest.entry)) }
 {
     let mut rest = rest;
@@ -33,7 +34,7 @@ pub(crate) fn pass_pairs<'a, W: Wire>(
     value_tag: Tag,
     count: u32,
 ) -> Result<Rest<'a>, WireFault>
-    requires { levels ≤ 64 }
+    requires { levels ≤ most_levels }
     ensures { AnswersExactly (λ r. r) result (passed_over (pair_list (value W.wire levels) key_tag value_tag count rest.entry)) }
 {
     let mut rest = rest;

@@ -1,5 +1,6 @@
 //! The known part of a struct, as others call it.
 ghost use Rattle.std.specs.Prelude.{◌≡◌, ◌≤◌, length, IfOk};
+ghost use Rattle.limits.specs.Limits.{most_levels};
 ghost use Rattle.thrift_value.specs.declared.tag.Tag.TheVariants.{Struct as StructTag};
 ghost use Rattle.thrift_value.specs.TreeOf.{tree_of};
 ghost use Rattle.schema.specs.SchemaOf.{schema_of};
@@ -12,6 +13,7 @@ ghost use Rattle.known_parts.specs.KnownAt.{known_at, known_struct, read_seen};
 use crate::laws::known_parts_are_smaller;
 use crate::rest::Rest;
 use crate::walk::known_fields;
+use limits::MOST_LEVELS;
 use schema::Schema;
 use std::alloc::Global;
 use thrift_value::{Value, WireFault};
@@ -26,10 +28,10 @@ fn known_in_front<'a, W: Wire>(
     which: u32,
 ) -> Result<(Value, Rest<'a>), WireFault>
     requires { IsSound (schema_of schema.now) }
-    ensures { AnswersOrNoMemory (λ r. (tree_of r.0, r.1)) result (read_seen (known_struct (schema_of schema.now) which) (value W.wire 64 StructTag rest.entry)) }
+    ensures { AnswersOrNoMemory (λ r. (tree_of r.0, r.1)) result (read_seen (known_struct (schema_of schema.now) which) (value W.wire most_levels StructTag rest.entry)) }
 {
     let rest = rest.count_value()?;
-    let (fields, rest) = known_fields::<W>(alloc, rest, 63, schema, which)?;
+    let (fields, rest) = known_fields::<W>(alloc, rest, MOST_LEVELS - 1, schema, which)?;
     Ok((Value::Struct(fields), rest))
 }
 

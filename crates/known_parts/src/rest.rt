@@ -1,5 +1,6 @@
 //! What is still to be read, and the parts of a value in front of it.
 ghost use Rattle.std.specs.Prelude.{◌≡◌, ◌≤◌, length, drop, take, All, ◌<◌};
+ghost use Rattle.limits.specs.Limits.{most_levels, most_values};
 ghost use Rattle.thrift_value.specs.TreeOf.{tree_of};
 ghost use Rattle.wire_model.specs.Answering.{AnswersExactly};
 ghost use Rattle.wire_model.specs.AtPlace.{head_of, left_at, passed_over};
@@ -7,6 +8,7 @@ ghost use Rattle.wire_model.specs.Decoder.{count_value};
 ghost use Rattle.wire_model.specs.Reading.{value};
 ghost use Rattle.wire_model.specs.Wire.{IsScalar};
 
+use limits::{MOST_LEVELS, MOST_VALUES};
 use std::marker::Model;
 use thrift_value::{Tag, Value, WireFault};
 use wire_model::{FieldHead, Wire};
@@ -16,7 +18,7 @@ use wire_model::{FieldHead, Wire};
 pub(crate) struct Rest<'a> {
     bytes: &'a [u8],
     budget: u32,
-    ghost few: { budget ≤ 4000000 },
+    ghost few: { budget ≤ most_values },
 }
 
 impl<'a> Model for Rest<'a> {
@@ -30,11 +32,11 @@ impl<'a> Model for Rest<'a> {
 impl<'a> Rest<'a> {
     /// Takes all of these bytes, of at most 4,000,000 values.
     pub(crate) fn new(bytes: &'a [u8]) -> Self
-        ensures { result ≡ record { bytes = bytes.now; budget = 4000000 } }
+        ensures { result ≡ record { bytes = bytes.now; budget = most_values } }
     {
         Rest {
             bytes,
-            budget: 4_000_000,
+            budget: MOST_VALUES,
         }
     }
 
@@ -134,14 +136,14 @@ pub(crate) fn skip<'a, W: Wire>(
     levels: u32,
     tag: Tag,
 ) -> Result<Rest<'a>, WireFault>
-    requires { levels ≤ 64 }
+    requires { levels ≤ most_levels }
     ensures { AnswersExactly (λ r. r) result (passed_over (value W.wire levels tag rest.entry)) }
 {
-    let mut count = 4_000_000 - u64::from(rest.budget);
-    match W::skip(rest.bytes, 0, tag, 65 - levels, &mut count) {
+    let mut count = u64::from(MOST_VALUES) - u64::from(rest.budget);
+    match W::skip(rest.bytes, 0, tag, MOST_LEVELS + 1 - levels, &mut count) {
         Ok(place) => Ok(Rest {
             bytes: rest.bytes.split_at(place).1,
-            budget: (4_000_000 - count) as u32,
+            budget: (u64::from(MOST_VALUES) - count) as u32,
         }),
         Err(fault) => Err(fault),
     }

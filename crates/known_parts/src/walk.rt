@@ -2,6 +2,7 @@
 ghost use Rattle.std.specs.Prelude.{◌≡◌, ◌≤◌, length, pos, Option, Some, None, Result};
 ghost use Rattle.wire_num.specs.Encoded.{AreByteSized};
 ghost use Rattle.std.specs.Option.{option_map};
+ghost use Rattle.limits.specs.Limits.{most_levels};
 ghost use Rattle.thrift_value.specs.declared.tag.Tag.TheVariants as tags;
 ghost use Rattle.thrift_value.specs.declared.wire_fault.WireFault.{WireFault};
 ghost use Rattle.thrift_value.specs.Tree.{FieldTrees, ItemTrees, PairTrees, of_bytes, of_struct, of_map, of_set, of_list};
@@ -39,7 +40,7 @@ fn unknown<'a, W: Wire>(
     levels: u32,
     tag: Tag,
 ) -> Result<(Option<Value>, Rest<'a>), WireFault>
-    requires { levels ≤ 64 }
+    requires { levels ≤ most_levels }
     ensures { AnswersOrNoMemory (λ r. (option_map tree_of r.0, r.1)) result (read_seen (λ x. None) (value W.wire levels tag rest.entry)) }
 {
     let rest = skip::<W>(rest, levels, tag)?;
@@ -130,7 +131,7 @@ pub(crate) fn known_value<'a, W: Wire>(
     tag: Tag,
 ) -> Result<(Option<Value>, Rest<'a>), WireFault>
     requires sound { IsSound (schema_of schema.now) }
-    requires levels { levels ≤ 64 }
+    requires levels { levels ≤ most_levels }
     ensures { AnswersOrNoMemory (λ r. (option_map tree_of r.0, r.1)) result
         (read_seen (λ x. known (schema_of schema.now) x (kind_of kind.now)) (value W.wire levels tag rest.entry)) }
 {
@@ -176,7 +177,7 @@ fn known_struct<'a, W: Wire>(
     which: u32,
 ) -> Result<(Option<Value>, Rest<'a>), WireFault>
     requires sound { IsSound (schema_of schema.now) }
-    requires levels { levels ≤ 64 }
+    requires levels { levels ≤ most_levels }
     ensures { AnswersOrNoMemory (λ r. (option_map tree_of r.0, r.1)) result
         (read_seen (λ x. known (schema_of schema.now) x (kind_struct which)) (held W.wire levels tags.Struct rest.entry)) }
 {
@@ -195,7 +196,7 @@ fn known_map<'a, W: Wire>(
     value: &TypeDesc,
 ) -> Result<(Option<Value>, Rest<'a>), WireFault>
     requires sound { IsSound (schema_of schema.now) }
-    requires levels { levels ≤ 64 }
+    requires levels { levels ≤ most_levels }
     ensures { AnswersOrNoMemory (λ r. (option_map tree_of r.0, r.1)) result
         (read_seen (λ x. known (schema_of schema.now) x (kind_map (kind_of key.now) (kind_of value.now))) (held W.wire levels tags.Map rest.entry)) }
 {
@@ -220,7 +221,7 @@ fn known_elements<'a, W: Wire>(
     kind: &TypeDesc,
 ) -> Result<(Option<Items>, Rest<'a>), WireFault>
     requires sound { IsSound (schema_of schema.now) }
-    requires levels { levels ≤ 64 }
+    requires levels { levels ≤ most_levels }
     ensures { AnswersOrNoMemory (λ r. (option_map items_tree r.0, r.1)) result
         (read_seen (λ e. known_items (schema_of schema.now) e.1 (kind_of kind.now)) (elements W.wire levels rest.entry)) }
 {
@@ -247,7 +248,7 @@ fn known_field<'a, W: Wire>(
     flag: Option<bool>,
 ) -> Result<(Option<Value>, Rest<'a>), WireFault>
     requires sound { IsSound (schema_of schema.now) }
-    requires levels { levels ≤ 64 }
+    requires levels { levels ≤ most_levels }
     ensures { AnswersOrNoMemory (λ r. (option_map tree_of r.0, r.1)) result
         (read_seen (known_value_at (schema_of schema.now) which id.now) (head_value W.wire levels (head_of (Field id.now tag flag)) rest.entry)) }
 {
@@ -271,7 +272,7 @@ pub(crate) fn known_fields<'a, W: Wire>(
     which: u32,
 ) -> Result<(Fields, Rest<'a>), WireFault>
     requires sound { IsSound (schema_of schema.now) }
-    requires levels { levels ≤ 64 }
+    requires levels { levels ≤ most_levels }
     ensures { AnswersOrNoMemory (λ r. (fields_tree r.0, r.1)) result
         (read_seen (known_fields (schema_of schema.now) which) (field_list W.wire (value W.wire levels) (length rest.entry.bytes) (pos 0) rest.entry)) }
 {
@@ -310,7 +311,7 @@ fn known_items<'a, W: Wire>(
     count: u32,
 ) -> Result<(Option<Items>, Rest<'a>), WireFault>
     requires sound { IsSound (schema_of schema.now) }
-    requires levels { levels ≤ 64 }
+    requires levels { levels ≤ most_levels }
     ensures { AnswersOrNoMemory (λ r. (option_map items_tree r.0, r.1)) result
         (read_seen (λ all. known_items (schema_of schema.now) all (kind_of kind.now)) (item_list (value W.wire levels) tag count rest.entry)) }
 {
@@ -343,7 +344,7 @@ fn known_pairs<'a, W: Wire>(
     count: u32,
 ) -> Result<(Option<Pairs>, Rest<'a>), WireFault>
     requires sound { IsSound (schema_of schema.now) }
-    requires levels { levels ≤ 64 }
+    requires levels { levels ≤ most_levels }
     ensures { AnswersOrNoMemory (λ r. (option_map pairs_tree r.0, r.1)) result
         (read_seen (λ all. known_pairs (schema_of schema.now) all (kind_of key_kind.now) (kind_of value_kind.now))
         (pair_list (value W.wire levels) key_tag value_tag count rest.entry)) }

@@ -21,6 +21,10 @@ most_levels = 64
 abbrev pub most_values : ℕ
 most_values = 4000000
 
+-- the longest payload of a frame where words don't say it, in bytes
+abbrev pub usual_payload : ℕ
+usual_payload = 16384000
+
 -- the longest file of an IDL, in bytes
 abbrev pub longest_idl_text : ℕ
 longest_idl_text = 4194304

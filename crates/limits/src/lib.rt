@@ -20,6 +20,12 @@ pub const MOST_LEVELS: u32 = 64;
 /// The most values that a value on the wire or a constant consists of, itself included.
 pub const MOST_VALUES: u32 = 4_000_000;
 
+/// The longest payload of a frame where words don't say it, in bytes, as in Apache's servers.
+pub const USUAL_PAYLOAD: u32 = 16_384_000;
+
+/// The most levels of a type: 1,000 containers in one another, and what stands in the innermost.
+pub const MOST_TYPE_LEVELS: u32 = 1_001;
+
 /// The longest file of an IDL, in bytes.
 pub const LONGEST_IDL_TEXT: usize = 4_194_304;
 

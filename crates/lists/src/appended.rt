@@ -25,7 +25,9 @@ impl<T> Appended<T> {
     pub fn new() -> Appended<T>
         ensures { result ≡ [] }
     {
-        Appended { items: Items::new() }
+        Appended {
+            items: Items::new(),
+        }
     }
 
     /// Appends an item.

@@ -8,8 +8,8 @@ ghost use Rattle.loop_conns.specs.Going.{AnyLoopIsRunning, AllKeepGoing, AllCome
 use crate::connections::{ConnStage, LoopConnections};
 use conn_state::EndCause;
 use outside::{Ask, Hint, Links};
-use streams::Failed;
 use std::sync::Wait;
+use streams::Failed;
 
 impl LoopConnections {
     /// Asks the links what is next, and adds the connection that they opened, if they did. It may wait.

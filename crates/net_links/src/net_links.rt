@@ -10,12 +10,12 @@ use crate::account::Account;
 use crate::signal::NetBell;
 use crate::sockets::Sockets;
 use outside::{Ask, Hint, Links, Taken};
-use streams::Failed;
 use std::alloc::{AllocError, Global};
 use std::io;
 use std::marker::Model;
 use std::net::Net;
 use std::sync::Wait;
+use streams::Failed;
 
 /// Connections that are accepted at one port of the loopback address.
 ///

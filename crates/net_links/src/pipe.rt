@@ -4,9 +4,9 @@ ghost use Rattle.std.specs.Prelude.{◌≡◌, ◌≤◌, ◌<◌, length, IfOk,
 ghost use Rattle.net_links.specs.Piping.{fresh_net_pipe, net_pipe_told};
 
 use outside::Pipe;
-use streams::{Failed, Sink, Source};
 use std::io::{self, ErrorKind, Read, Write};
 use std::marker::Model;
+use streams::{Failed, Sink, Source};
 
 /// A call that a signal cuts off is made again, so often at most.
 const TRIES: u32 = 16;

@@ -1,6 +1,7 @@
 -- A call that is asked for at a port, and the frame that it sends.
 use Rattle.std.specs.Prelude.{◌≡◌, ℕ, ℤ, pos, not, is_some, Bool, true, List, Option, None, Some, IsErr, Ok, Err, if◌then◌else◌}
 use Rattle.std.specs.Option.{option_map_or}
+use Rattle.limits.specs.Limits.{usual_payload}
 use Rattle.call_model.specs.Names.{separator_of}
 use Rattle.client_desk.specs.Asking.{asked_frame}
 use Rattle.client_desk.specs.Clients.{PlainClient}
@@ -29,7 +30,7 @@ call_id = pos 1
 
 -- the longest payload of a call and of its reply, in bytes
 abbrev pub longest_call : ℕ
-longest_call = 16384000
+longest_call = usual_payload
 
 -- the service that the main file knows by a name; by a name with a separator it knows none
 abbrev pub service_known : PlainSchema → List ℕ → Option ℕ

@@ -3,8 +3,8 @@
 ghost use Rattle.std.specs.Prelude.{◌≡◌};
 ghost use Rattle.port_calls.specs.declared.asking_fault.AskingFault.TheVariants.{NetFault, NoMemory};
 
-use streams::Failed;
 use std::alloc::AllocError;
+use streams::Failed;
 use thiserror::Error;
 
 /// Why a port gave no answer.

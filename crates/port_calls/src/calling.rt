@@ -22,10 +22,11 @@ use crate::call::PortCall;
 use crate::fault::{CallFault, CallRefusal, ReplyRefusal};
 use crate::lines::{SENT, heard_line};
 use client_desk::{AskFault, Client, HeardFault};
+use limits::USUAL_PAYLOAD;
 use outside::Binder;
-use streams::{Sink, write_all};
 use schema::Schema;
 use std::alloc::{AllocError, Global};
+use streams::{Sink, write_all};
 use thrift_value::{ByteText, Value};
 use value_text::{TextFault, read};
 
@@ -33,7 +34,7 @@ use value_text::{TextFault, read};
 const CALL_ID: i32 = 1;
 
 /// The longest payload of a call and of its reply, in bytes.
-const LONGEST_CALL: u32 = 16_384_000;
+const LONGEST_CALL: u32 = USUAL_PAYLOAD;
 
 /// The place of the first `:` in a name.
 fn separator_of(name: &[u8]) -> Option<usize>

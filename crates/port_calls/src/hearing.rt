@@ -8,8 +8,8 @@ ghost use Rattle.port_calls.specs.declared.hearing.Unheard.TheVariants.{NetFault
 use crate::asking_fault::AskingFault;
 use host_model::laws::less_than_a_frame;
 use outside::Pipe;
-use streams::Failed;
 use std::alloc::{AllocError, Global};
+use streams::Failed;
 
 /// Why bytes weren't read.
 #[derive(Clone, Copy)]

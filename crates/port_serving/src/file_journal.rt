@@ -11,9 +11,9 @@ ghost use Rattle.port_serving.specs.Steps.{BeginsJournal, OpensJournal, EndsOpen
 use crate::fault::PortFault;
 use call_rules::{Entry, Journal};
 use journal_text::{NoJournal, SpoolJournal};
-use streams::{Failed, Files, Sink};
 use std::alloc::{AllocError, Global};
 use std::marker::Model;
+use streams::{Failed, Files, Sink};
 
 /// A journal over a sink that had taken nothing when it was handed in.
 #[derive(Drop)]

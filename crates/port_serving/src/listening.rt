@@ -6,9 +6,9 @@ ghost use Rattle.port_serving.specs.Steps.{StartsListening, EndsListening};
 
 use crate::fault::PortFault;
 use outside::Binder;
-use streams::Sink;
 use run_report::write_listening;
 use std::alloc::Global;
+use streams::Sink;
 
 /// Links that listen at this port and accept so many connections, once the line that tells so is written. Where it isn't, they are handed back.
 pub(crate) fn listen<K: Sink, B: Binder>(

@@ -22,11 +22,11 @@ use call_rules::{Desk, Handler};
 use conn_table::{Ends, Limits, Outcome};
 use host_loop::{Served, serve};
 use outside::{Binder, Gate};
-use streams::{Files, Sink};
 use run_report::write_summary;
 use std::alloc::Global;
 use std::sync::Wait;
 use std::thread::Threads;
+use streams::{Files, Sink};
 
 /// What became of the connections of a port.
 #[derive(Drop)]

@@ -15,9 +15,9 @@ use crate::names::{BoundService, name_parts, service_asked};
 use crate::office::Office;
 use call_rules::{Call, Decision};
 use envelope::{HeadFault, LentHead, lend_head};
-use streams::Bytes;
 use schema::FnDesc;
 use std::alloc::{AllocError, Global};
+use streams::Bytes;
 use thrift_value::{ByteText, Value};
 
 /// The type of a message whose sender waits for no reply.

@@ -16,10 +16,10 @@ use crate::input::read_input;
 use call_rules::{Desk, Handler};
 use cell_core::{Rehearsed, rehearse};
 use conn_table::{Limits, Outcome};
-use streams::{Sink, Source};
 use run_report::{EntryLine, ReportedJournal, write_report};
 use script_text::Script;
 use std::alloc::Global;
+use streams::{Sink, Source};
 
 /// What became of a recording: the journal as it is after the run, and whether its report was written.
 #[derive(Drop)]

@@ -11,10 +11,10 @@ ghost use Rattle.recorded_runs.specs.declared.input.InputError.TheVariants.{Fail
 
 use crate::fault::ServingFault;
 use limits::{LONGEST_SCRIPT, MOST_READ};
-use streams::{Failed, Source};
 use script_text::laws::scripts_are_sound;
 use script_text::{Script, read_script};
 use std::alloc::{AllocError, Global};
+use streams::{Failed, Source};
 
 /// Why an input couldn't be read.
 #[derive(Clone, Copy)]

@@ -17,13 +17,13 @@ use cell_core::written;
 use conn_table::{Limits, Outcome};
 use host_loop::{Served, serve};
 use outside::Gate;
-use streams::{Sink, Source, Tape};
 use run_report::{EntryLine, ReportedJournal, write_report};
 use script_links::ScriptLinks;
 use script_text::Script;
 use std::alloc::Global;
 use std::sync::Wait;
 use std::thread::Threads;
+use streams::{Sink, Source, Tape};
 
 /// Serves the connections of the script that the input is, by a loop and so many workers on threads, and writes the report of the run to the output. The journal
 /// is empty at first. It may wait.

@@ -18,9 +18,9 @@ use call_rules::Handler;
 use conn_table::Outcome;
 use host_loop::Served;
 use host_model::EndCause;
-use streams::{Sink, Tape, write_all};
 use run_report::ReportedJournal;
 use std::alloc::{AllocError, Global};
+use streams::{Sink, Tape, write_all};
 use workload::{Summary, answer_adds, bytes_read, bytes_written, print_summary};
 
 /// Writes the summary of a run that came to its end, where no connection ran out of memory.

@@ -16,13 +16,13 @@ use call_rules::{Desk, Handler};
 use conn_table::Limits;
 use host_loop::{Served, serve};
 use outside::Gate;
-use streams::Sink;
 use run_report::ReportedJournal;
 use script_links::ScriptLinks;
 use script_text::Script;
 use std::alloc::Global;
 use std::sync::Wait;
 use std::thread::Threads;
+use streams::Sink;
 use workload::generate;
 
 /// A workload: its seed, and how many frames it has.

@@ -3,8 +3,8 @@
 ghost use Rattle.std.specs.Prelude.{◌≡◌};
 ghost use Rattle.run_report.specs.declared.fault.ReportFault.TheVariants.{Failed as SinkFailed, NoMemory as NoRoom};
 
-use streams::Failed;
 use std::alloc::{AllocError, AllocFailed};
+use streams::Failed;
 use thiserror::Error;
 
 /// Why a report isn't written whole.

@@ -8,8 +8,8 @@ ghost use Rattle.host_model.specs.Report.{cause_text, fault_text, mark_text, num
 ghost use Rattle.run_report.specs.Summary.{conn_text, listening_line};
 
 use host_model::EndCause;
-use streams::{EnvelopeFault, MarkAt};
 use std::alloc::AllocError;
+use streams::{EnvelopeFault, MarkAt};
 use text_out::{decimal, hex};
 
 /// Appends the line of a mark.

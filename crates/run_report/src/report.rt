@@ -16,8 +16,8 @@ use crate::fault::ReportFault;
 use crate::lines::{put_count, put_end, put_mark};
 use call_rules::Entry;
 use host_model::EndCause;
-use streams::{Bytes, MarkAt, Sink, Tape, write_all};
 use std::alloc::Global;
+use streams::{Bytes, MarkAt, Sink, Tape, write_all};
 use text_out::hex;
 
 /// How many bytes are pending at most before they are handed to the sink, a line aside.

@@ -11,8 +11,8 @@ use crate::fault::ReportFault;
 use crate::lines::{put_conn, put_listening};
 use crate::report::{PIECE, flush, settle, write_count};
 use host_model::EndCause;
-use streams::Sink;
 use std::alloc::Global;
+use streams::Sink;
 
 /// Writes the line that tells at which port connections are awaited.
 #[tactic(auto, using(crate::proofs::Taking::taking))]

@@ -8,7 +8,8 @@ ghost use Rattle.schema.specs.Shapes.{joined};
 ghost use Rattle.schema.specs.SchemaText.{need_word, default_part, front_part, field_in_text, field_line_of, fields_in_text};
 
 use crate::types::{FieldDesc, FieldNeed, Schema};
-use crate::types_text::{MAX_LEVELS, put_kind};
+use crate::types_text::put_kind;
+use limits::MOST_TYPE_LEVELS;
 use std::alloc::AllocError;
 use text_out::decimal;
 use thrift_value::Value;
@@ -53,7 +54,7 @@ fn put_field(into: &mut Vec<u8>, schema: &Schema, field: &FieldDesc) -> Result<(
     ensures { OnOk result (into.new.items ≡ into.old.items ++ field_in_text (schema_of schema.now) (plain_field field.now)) }
 {
     put_front(into, field)?;
-    put_kind(into, schema, &field.kind, MAX_LEVELS)?;
+    put_kind(into, schema, &field.kind, MOST_TYPE_LEVELS)?;
     into.extend_from_slice(b" ")?;
     into.extend_from_slice(field.name.as_slice())?;
     put_default(into, field.default.as_ref())

@@ -10,7 +10,8 @@ ghost use Rattle.schema.specs.Shapes.{oneway_front};
 
 use crate::fields_text::put_fields;
 use crate::types::{FieldDesc, FnDesc, Schema, ServiceDesc, TypeDesc};
-use crate::types_text::{MAX_LEVELS, at, put_kind, put_service_name};
+use crate::types_text::{at, put_kind, put_service_name};
+use limits::MOST_TYPE_LEVELS;
 use std::alloc::AllocError;
 
 /// Appends the word in front of a function to which no reply follows.
@@ -33,7 +34,7 @@ fn put_result(
         ++ result_name (schema_of schema.now) (option_map kind_of (option_copied kind.entry))) }
 {
     match kind {
-        Some(kind) => put_kind(into, schema, kind, MAX_LEVELS),
+        Some(kind) => put_kind(into, schema, kind, MOST_TYPE_LEVELS),
         None => into.extend_from_slice(b"void"),
     }
 }

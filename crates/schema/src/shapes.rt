@@ -12,7 +12,8 @@ ghost use Rattle.schema.specs.Sound.{IsSound};
 use crate::look_up::{fields_at, own_part};
 use crate::services_text::put_oneway;
 use crate::types::{FieldDesc, FnDesc, Schema, TypeDesc};
-use crate::types_text::{MAX_LEVELS, inner, tag_word};
+use crate::types_text::{inner, tag_word};
+use limits::MOST_TYPE_LEVELS;
 use std::alloc::{AllocError, Global};
 use text_out::decimal;
 use thrift_value::{ByteText, FnShapes};
@@ -43,7 +44,7 @@ fn put_field_tags(into: &mut Vec<u8>, field: &FieldDesc) -> Result<(), AllocErro
 {
     decimal(into, i128::from(field.id))?;
     into.extend_from_slice(b":")?;
-    put_tags(into, &field.kind, MAX_LEVELS)
+    put_tags(into, &field.kind, MOST_TYPE_LEVELS)
 }
 
 fn put_behind_comma(into: &mut Vec<u8>, field: &FieldDesc) -> Result<(), AllocError>
@@ -85,7 +86,7 @@ fn put_result_tags(into: &mut Vec<u8>, kind: Option<&TypeDesc>) -> Result<(), Al
     ensures { OnOk result (into.new.items ≡ into.old.items ++ result_tags (option_map kind_of (option_copied kind.entry))) }
 {
     match kind {
-        Some(kind) => put_tags(into, kind, MAX_LEVELS),
+        Some(kind) => put_tags(into, kind, MOST_TYPE_LEVELS),
         None => into.extend_from_slice(b"void"),
     }
 }

@@ -11,7 +11,8 @@ use crate::services_text::put_service;
 use crate::types::{
     AliasDesc, ConstDesc, DefRef, EnumDesc, FieldsKind, FileDesc, Schema, StructDesc, TypeDesc,
 };
-use crate::types_text::{MAX_LEVELS, at, put_kind};
+use crate::types_text::{at, put_kind};
+use limits::MOST_TYPE_LEVELS;
 use std::alloc::{AllocError, Global};
 use text_out::{decimal, line};
 use thrift_value::ByteText;
@@ -31,7 +32,7 @@ fn put_typed(
     into.extend_from_slice(word)?;
     into.extend_from_slice(name)?;
     into.extend_from_slice(b" ")?;
-    put_kind(into, schema, kind, MAX_LEVELS)
+    put_kind(into, schema, kind, MOST_TYPE_LEVELS)
 }
 
 #[tactic(auto, unfolding(crate::specs::SchemaText::alias_in_text))]

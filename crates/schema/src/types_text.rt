@@ -11,9 +11,6 @@ ghost use Rattle.schema.specs.SchemaText.{text_at, enum_name, struct_name, servi
 use crate::types::{Schema, TypeDesc};
 use std::alloc::AllocError;
 
-/// The most levels of a type that have a text: 1,000 containers in one another, and what stands in the innermost.
-pub(crate) const MAX_LEVELS: u32 = 1_001;
-
 /// The item at a place.
 pub(crate) fn item<T>(items: &[T], place: usize) -> Option<&T>
     ensures { option_copied result ≡ slice_get items.now place }

@@ -23,13 +23,13 @@ use crate::past::{PastChain, PastRow};
 use crate::serving::ScriptServing;
 use lists::Listed;
 use outside::{BindFail, Binder};
-use streams::Tape;
 use script_text::Script;
 use std::alloc::{AllocError, Global};
 use std::marker::Model;
 use std::mem;
 use std::sync::Arc;
 use std::sync::atomic::AtomicU64;
+use streams::Tape;
 
 /// Makes links over a script, and pipes over bytes. The calls to listen and to dial whose numbers were given, counted together from 0, fail and count a fault each; and
 /// so do calls on the links and on the pipes.

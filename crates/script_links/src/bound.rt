@@ -18,11 +18,11 @@ use crate::over_script::told;
 use crate::past::PastChain;
 use crate::serving::ScriptServing;
 use outside::{Ask, Hint, Links, Taken};
-use streams::Failed;
 use std::alloc::{AllocError, Global};
 use std::marker::Model;
 use std::sync::atomic::AtomicU64;
 use std::sync::{Arc, Wait};
+use streams::Failed;
 
 /// Links over a script that listen at a port, and accept so many connections at most. A call that is to fail does; each other one does just what the links over
 /// the script do.

@@ -16,12 +16,12 @@ use crate::link::{LinkStage, ScriptConn};
 use crate::mark_log::MarkLog;
 use crate::serving::ScriptServing;
 use crate::step::Step;
-use streams::{Bytes, RestPlace};
 use script_text::laws::scripts_are_sound;
 use script_text::{RuleList, Script, ScriptLine};
 use std::alloc::{AllocError, Global};
 use std::collections::VecDeque;
 use std::marker::Model;
+use streams::{Bytes, RestPlace};
 
 /// The pieces of a connection, in order; contracts see them as a list.
 #[derive(Drop)]

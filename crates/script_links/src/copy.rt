@@ -2,9 +2,9 @@
 
 ghost use Rattle.std.specs.Prelude.{◌≡◌, IfOk};
 
-use streams::Bytes;
 use script_text::{RuleList, RuleLists, Script, ScriptLine, ScriptLines};
 use std::alloc::{AllocError, Global};
+use streams::Bytes;
 
 /// A copy of a script.
 pub fn copy_of(alloc: Global, script: &Script) -> Result<Script, AllocError>

@@ -7,9 +7,9 @@ ghost use Rattle.script_links.specs.Kept.{plain_link_finish, plain_link};
 
 use limits::MOST_READ;
 use outside::Taken;
-use streams::Bytes;
 use script_text::WriteRule;
 use std::alloc::AllocError;
+use streams::Bytes;
 
 /// How a connection stands.
 #[derive(Clone, Copy)]

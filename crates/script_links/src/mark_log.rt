@@ -3,9 +3,9 @@
 ghost use Rattle.std.specs.Prelude.{◌≡◌, ◌+◌, ◌<◌, ◌≤◌, [], ◌∷◌, ◌++◌, length, OnOk};
 ghost use Rattle.streams.specs.Marks.{lent_mark, lent_bytes};
 
-use streams::{Cursor, MarkAt, Tape, TapeLog};
 use std::alloc::{AllocError, Global};
 use std::marker::Model;
+use streams::{Cursor, MarkAt, Tape, TapeLog};
 
 /// What happened so far, the oldest first, with room for more.
 #[derive(Drop)]

@@ -9,9 +9,9 @@ ghost use Rattle.script_links.specs.Answering.{fresh_mem_pipe, mem_pipe_told, pa
 use crate::call_list::CallList;
 use crate::called::{CalledChain, CalledRow};
 use outside::Pipe;
-use streams::{Failed, Sink, Source};
 use std::alloc::Global;
 use std::marker::Model;
+use streams::{Failed, Sink, Source};
 
 /// What a pipe answers, and which of its reads and writes are to fail, by their numbers, counted together from 0.
 #[derive(Drop)]

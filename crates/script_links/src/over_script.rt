@@ -15,12 +15,12 @@ ghost use Rattle.script_links.specs.Followed.{LinksPlan, plan_of_links, AreLinks
 use crate::serving::ScriptServing;
 use crate::step::Came;
 use outside::{Ask, Bell, Hint, Links, Taken};
-use streams::{Cursor, Failed, Tape};
 use script_text::Script;
 use std::alloc::{AllocError, Global};
 use std::marker::Model;
 use std::sync::atomic::{AtomicU64, Ordering};
 use std::sync::{Arc, Wait};
+use streams::{Cursor, Failed, Tape};
 
 /// The bell of links over a script: a word that they share with each bell, 1 once it was rung.
 #[derive(Drop)]

@@ -11,9 +11,9 @@ use crate::link::LinkInputEnd;
 use crate::mark_log::MarkLog;
 use crate::step::{Came, Step};
 use outside::{Ask, Hint};
-use streams::{MarkAt, RestPlace};
 use std::alloc::Global;
 use std::collections::VecDeque;
+use streams::{MarkAt, RestPlace};
 
 /// What is kept of a script that links serve.
 #[derive(Drop)]

@@ -9,8 +9,8 @@ ghost use Rattle.script_links.specs.Kept.{served_of, IsKeptServing, HasEndRoom, 
 
 use crate::serving::ScriptServing;
 use outside::Taken;
-use streams::MarkAt;
 use std::alloc::AllocError;
+use streams::MarkAt;
 
 impl ScriptServing {
     /// Reads of connection `c`, which is open.

@@ -8,8 +8,8 @@ ghost use Rattle.script_text.specs.Drafts.{plain_said};
 use crate::digits::bytes_of_pairs;
 use crate::lines::{ScriptLine, WriteRule};
 use memchr::memchr;
-use streams::Bytes;
 use std::alloc::{AllocError, Global};
+use streams::Bytes;
 
 /// What a line says: a line of the run, or one more rule of a connection.
 #[derive(Drop)]

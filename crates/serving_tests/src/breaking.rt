@@ -6,10 +6,10 @@ ghost use Rattle.script_links.specs.Shown.{links_told};
 ghost use Rattle.serving_tests.specs.Untold.{untold};
 
 use outside::{Ask, Hint, Links, Taken};
-use streams::Failed;
 use script_links::{ScriptBell, ScriptLinks};
 use std::alloc::{AllocError, Global};
 use std::sync::Wait;
+use streams::Failed;
 
 /// Links over a script that tell nothing of its bytes, and fail when they are asked for the time of this number, and after it.
 #[derive(Drop)]

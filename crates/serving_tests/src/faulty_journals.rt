@@ -4,10 +4,10 @@ ghost use Rattle.std.specs.Prelude.{◌≡◌, [], false};
 
 use call_rules::{Entry, Journal};
 use journal_text::ListJournal;
-use streams::Failed;
 use run_report::ReportedJournal;
 use std::alloc::{AllocError, Global};
 use std::marker::Model;
+use streams::Failed;
 
 // A journal that fails at the append with this number, and at all after it.
 #[derive(Drop)]

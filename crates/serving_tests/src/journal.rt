@@ -3,8 +3,8 @@
 ghost use Rattle.std.specs.Prelude.{◌≡◌, false};
 
 use call_rules::{Entry, Journal, Key};
-use streams::Failed;
 use std::alloc::{AllocError, Global};
+use streams::Failed;
 
 /// A journal that keeps the keys of its entries, tells none of them, and fails at the append of this number and after it.
 #[derive(Drop)]

@@ -6,9 +6,9 @@ ghost use Rattle.call_rules.specs.PlainCalls.{IsPlainCall, IsPlainAnswer};
 use crate::entries::{long_ping, ping};
 use call_rules::{Entry, Journal};
 use journal_text::{ListJournal, SegmentJournal, SinkJournal, SpoolJournal, put_entry};
-use streams::MemSink;
 use std::alloc::{AllocError, Global};
 use std::test::Fail;
+use streams::MemSink;
 use text_out::decimal;
 
 // Appends an entry where it could be made; whether it was entered.

@@ -4,11 +4,11 @@ ghost use Rattle.std.specs.Prelude.{◌≤◌};
 
 use crate::running::{NEVER, Run, served};
 use conn_table::Outcome;
-use streams::{Cursor, MarkAt};
 use std::alloc::{AllocError, Global};
 use std::sync::Wait;
 use std::test::Fail;
 use std::thread::Threads;
+use streams::{Cursor, MarkAt};
 
 /// So many calls stand one behind the other on connection 0: more than rounds that a line of the script begins collect, so that the loop has to wake itself.
 const CALLS: usize = 3_000;

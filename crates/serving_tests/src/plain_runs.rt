@@ -5,8 +5,8 @@ ghost use Rattle.std.specs.Prelude.{◌≡◌, ◌<◌, ◌^◌};
 use host_model::EndCause;
 use host_model::plain::{Decided, PlainDesk, PlainServices};
 use machine_model::plain::{PlainApplyResult, PlainCell, PlainConnEvent, PlainEvent, run, start};
-use streams::Bytes;
 use std::alloc::{AllocError, Global};
+use streams::Bytes;
 
 // A desk with one reply.
 #[derive(Drop)]

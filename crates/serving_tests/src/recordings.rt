@@ -10,13 +10,13 @@ use conn_table::Limits;
 use envelope::Protocol;
 use house_handlers::Mirror;
 use journal_text::put_entry;
-use streams::{MemSink, MemSource};
 use processor::Office;
 use recorded_runs::ServingFault::{self, JournalFault, WriteFault};
 use recorded_runs::answer_recorded;
 use run_report::EntryLine;
 use std::alloc::{AllocError, Global};
 use std::test::Fail;
+use streams::{MemSink, MemSource};
 
 // A call of `f`, and one of `g`, which there isn't.
 const CALLS: &[u8] = b"open\ndata 0 00000006822101016600000000068221\ndata 0 02016700\nend 0\n";

@@ -3,7 +3,6 @@
 use crate::echo::{ASK, connected};
 use net_links::{NetBinder, NetLinks};
 use outside::{Binder, Hint, Links, Taken};
-use streams::Failed;
 use std::alloc::{AllocError, Global};
 use std::io::Read;
 use std::net::{Net, Shutdown, TcpStream};
@@ -11,6 +10,7 @@ use std::sync::Wait;
 use std::test::Fail;
 use std::time::{Clock, Duration};
 use std::{io, thread};
+use streams::Failed;
 
 /// So many bytes are written in all, far more than a socket takes.
 const ALL: u64 = 40_000_000;

@@ -1,11 +1,13 @@
 //! What is still to be read, and the parts of a value in front of it. A fault isn't told.
 ghost use Rattle.std.specs.Prelude.{◌≡◌, ◌≤◌, length, IfSome, Ok};
+ghost use Rattle.limits.specs.Limits.{most_values};
 ghost use Rattle.thrift_value.specs.TreeOf.{tree_of};
 ghost use Rattle.wire_model.specs.AtPlace.{head_of, left_at};
 ghost use Rattle.wire_model.specs.Decoder.{count_value};
 ghost use Rattle.wire_model.specs.Wire.{IsScalar};
 ghost use Rattle.wire_num.specs.Encoded.{AreByteSized};
 
+use limits::MOST_VALUES;
 use std::marker::Model;
 use thrift_value::{Tag, Value};
 use wire_model::{FieldHead, Wire};
@@ -32,12 +34,12 @@ impl<'a> Ahead<'a> {
     /// The bytes from a place on, of at most 4,000,000 values.
     pub(crate) fn new(bytes: &'a [u8], at: usize) -> Self
         requires { at ≤ length bytes.now }
-        ensures { result ≡ left_at bytes.now at 4000000 }
+        ensures { result ≡ left_at bytes.now at most_values }
     {
         Ahead {
             bytes,
             at,
-            budget: 4_000_000,
+            budget: MOST_VALUES,
         }
     }
 

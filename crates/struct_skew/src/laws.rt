@@ -1,5 +1,6 @@
 //! What holds of the definitions.
 ghost use Rattle.std.specs.Prelude.{◌≡◌, ◌↔◌, ◌≤◌, ℕ, true, IsTrue, is_some, List, Some, Ok, Err};
+ghost use Rattle.limits.specs.Limits.{most_levels, most_values};
 ghost use Rattle.thrift_value.specs.declared.tag.Tag.TheVariants.{Struct as StructTag};
 ghost use Rattle.thrift_value.specs.Measures.{count_of, depth_of};
 ghost use Rattle.thrift_value.specs.Plain.{plain};
@@ -50,7 +51,7 @@ pub fn a_fault_names_what_is_declared()
 /// A value in which nothing is missing is its own projection, also where its bytes don't tell the tags of empty containers.
 pub fn a_filled_value_is_its_projection()
     ensures { (s : PlainSchema) (which : ℕ) (v : Tree) → IsSound s → IsTidy v → IsWrittenAs s.structs (kind_struct which) v
-        → IsFilled s.structs (kind_struct which) v → depth_of v ≤ 64 → count_of v ≤ 4000000 → projection s which (plain v) ≡ Ok v }
+        → IsFilled s.structs (kind_struct which) v → depth_of v ≤ most_levels → count_of v ≤ most_values → projection s which (plain v) ≡ Ok v }
 {}
 
 /// What a schema knows of a struct has the struct's projection; and something is known of a value exactly where it fits its type.
@@ -64,7 +65,7 @@ pub fn what_is_known_decides()
 pub fn settled_values_mean_themselves()
     ensures meaning { (s : PlainSchema) (kind : PlainKind) (v : Tree) → IsSound s → is_settled s.structs kind v ≡ true → meaning_of s.structs v kind ≡ Ok v }
     ensures projected { (s : PlainSchema) (which : ℕ) (v : Tree) → IsSound s → is_settled s.structs (kind_struct which) v ≡ true
-        → depth_of v ≤ 64 → count_of v ≤ 4000000 → projection s which v ≡ Ok v }
+        → depth_of v ≤ most_levels → count_of v ≤ most_values → projection s which v ≡ Ok v }
 {}
 
 /// A function that is found in a sound schema is sound, and its arguments are a struct of the schema.

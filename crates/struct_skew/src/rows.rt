@@ -1,5 +1,6 @@
 //! Worked examples of the definitions.
 ghost use Rattle.std.specs.Prelude.{◌≡◌, ◌≤◌, ℕ, pos, [], ◌∷◌, codes, true, false, Ok, Err};
+ghost use Rattle.limits.specs.Limits.{most_levels, most_values};
 ghost use Rattle.thrift_value.specs.declared.tag.Tag.TheVariants as tag;
 ghost use Rattle.thrift_value.specs.Measures.{count_of, depth_of};
 ghost use Rattle.schema.specs.PlainSchema.{PlainSchema};
@@ -71,5 +72,5 @@ pub fn worked_levels()
 
 /// A projection has at most 64 levels and 4,000,000 values.
 pub fn a_projection_is_bounded()
-    ensures { (s : PlainSchema) (which : ℕ) (raw value : Tree) → projection s which raw ≡ Ok value → (depth_of value ≤ 64) × (count_of value ≤ 4000000) }
+    ensures { (s : PlainSchema) (which : ℕ) (raw value : Tree) → projection s which raw ≡ Ok value → (depth_of value ≤ most_levels) × (count_of value ≤ most_values) }
 {}

@@ -29,6 +29,7 @@ use known_parts::{
     MOST_EXPECTED, MOST_EXPECTED_FIELDS, are_same_tags, deeper, keep, kept_text, list_of_kind,
     make_room, map_of_kind, put, set_of_kind, struct_of_kind, tag_of_kind,
 };
+use limits::MOST_LEVELS;
 use schema::{FieldDesc, Schema, StructDesc, TypeDesc};
 use std::alloc::Global;
 use thrift_value::{Fields, Items, Pairs, Tag, Value};
@@ -390,6 +391,6 @@ pub(crate) fn settled_in<W: Wire>(
 {
     value_read_is_spelled::<W>();
     let mut ahead = Ahead::new(bytes, at);
-    let value = settled_struct::<W>(alloc, &mut ahead, 64, schema, needed, which)?;
+    let value = settled_struct::<W>(alloc, &mut ahead, MOST_LEVELS, schema, needed, which)?;
     Some((value, bytes.len() - ahead.len()))
 }

@@ -1,5 +1,6 @@
 -- What is promised of a workload that is run: the tutorial's calculator, served on the connections of a script that is made from a seed.
 use Rattle.std.specs.Prelude.{◌≡◌, ℕ, Bool, List, [], ◌∷◌, codes, Option, None}
+use Rattle.limits.specs.Limits.{usual_payload}
 use Rattle.streams.specs.Content.{told_more}
 use Rattle.streams.specs.Files.{File}
 use Rattle.streams.specs.Taken.{IsTakenInPart}
@@ -31,7 +32,7 @@ workload_says workers = record {
   workers = workers;
   pairs = calculator_pairs;
   default_service = None;
-  limits = record { max_frame = 16384000; read_budget = longest_payload };
+  limits = record { max_frame = usual_payload; read_budget = longest_payload };
 }
 
 -- a workload that is asked for, with so many workers, with these files and handlers

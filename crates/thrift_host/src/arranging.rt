@@ -16,11 +16,11 @@ use crate::{BindFault, bind};
 use call_rules::Handler;
 use command_line::ServedIdl;
 use idl_check::{NoSchema, program_schema};
-use streams::Files;
 use processor::Office;
 use recorded_runs::ServingFault;
 use schema::Schema;
 use std::alloc::Global;
+use streams::Files;
 
 /// Why a run has no report, or no whole one.
 #[derive(Drop)]

@@ -14,10 +14,10 @@ use crate::status::Status;
 use command_line::AskedCall;
 use idl_check::program_schema;
 use outside::Binder;
-use streams::{Files, Sink};
 use port_calls::{CallFault, CallRefusal, PortCall, ReplyRefusal, call_port};
 use schema::Schema;
 use std::alloc::{AllocError, Global};
+use streams::{Files, Sink};
 use text_out::line;
 
 /// Makes the call of these words: the line of what it came to goes to the output.

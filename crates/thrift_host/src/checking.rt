@@ -11,8 +11,8 @@ ghost use Rattle.thrift_host.specs.Steps.{EndsWithout, EndsWriting};
 use crate::saying::{end, end_saying};
 use crate::status::Status;
 use idl_check::{NoSchema, program_text};
-use streams::{Files, Sink, write_all};
 use std::alloc::Global;
+use streams::{Files, Sink, write_all};
 
 /// Checks the IDL of this name: the text of its schema goes to the output.
 pub(crate) fn check<F: Files, K: Sink, E: Sink>(

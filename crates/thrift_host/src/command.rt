@@ -27,13 +27,13 @@ use command_line::{Command, ServedIdl, read_words};
 use compat_model::a_break_is_no_compatibility;
 use idl_check::refusal_laws::an_idl_has_one_verdict;
 use outside::{Binder, Gate};
-use streams::{Files, Sink, Source};
 use port_serving::ServedPort;
 use recorded_runs::Work;
 use service_binding::what_is_bound_is_not_refused;
 use std::alloc::Global;
 use std::sync::Wait;
 use std::thread::Threads;
+use streams::{Files, Sink, Source};
 
 /// Runs the command of these words, which leave the program's name out: it checks an IDL and writes the text of its schema to the output; it compares an IDL
 /// with the one that comes after it, and writes whether its values and calls survive; it runs the

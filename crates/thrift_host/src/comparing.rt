@@ -17,9 +17,9 @@ use command_line::ComparedIdls;
 use compat_check::{Break, compat};
 use compat_model::BreakKind;
 use idl_check::program_schema;
-use streams::{Files, Sink, write_all};
 use schema::Schema;
 use std::alloc::Global;
+use streams::{Files, Sink, write_all};
 
 /// Compares an IDL with the one that comes after it: the answer goes to the output.
 pub(crate) fn compare<F: Files, K: Sink, E: Sink>(

@@ -13,12 +13,12 @@ use crate::saying::{end, end_saying};
 use crate::serving::ServeFault;
 use crate::status::Status;
 use command_line::ServedIdl;
-use streams::Sink;
 use port_serving::PortFault;
 use recorded_runs::{ServingFault, put_refused_script};
 use script_text::ScriptFault;
 use service_binding::{BindKind, put_refused_pair};
 use std::alloc::{AllocError, Global};
+use streams::Sink;
 
 /// Ends the command with what became of a run of what is served.
 pub(crate) fn end_run<E: Sink>(

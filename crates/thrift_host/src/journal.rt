@@ -5,10 +5,10 @@ ghost use Rattle.journal_text.specs.EntryText.{entry_text};
 
 use call_rules::{Entry, Journal};
 use journal_text::{SegmentJournal, put_entry};
-use streams::Failed;
 use run_report::{EntryLine, ReportedJournal};
 use std::alloc::{AllocError, Global};
 use std::marker::Model;
+use streams::Failed;
 
 /// The lines of entries, as journals print them.
 pub(crate) struct JournalLines;

@@ -21,12 +21,12 @@ use call_rules::Handler;
 use command_line::ServedIdl;
 use conn_table::Limits;
 use outside::Gate;
-use streams::{Files, Sink, Source};
 use processor::Office;
 use recorded_runs::{ServingFault, serve_recorded};
 use std::alloc::Global;
 use std::sync::Wait;
 use std::thread::Threads;
+use streams::{Files, Sink, Source};
 
 /// Serves the connections of the script that the input is, as the words say, and writes the report of the run to the output. It may wait.
 pub(crate) fn serve_script<

@@ -19,10 +19,10 @@ use crate::journal::{JournalLines, ReportedList};
 use call_rules::Handler;
 use command_line::ServedIdl;
 use conn_table::Limits;
-use streams::{Files, Sink, Source};
 use processor::Office;
 use recorded_runs::{ServingFault, answer_recorded};
 use std::alloc::Global;
+use streams::{Files, Sink, Source};
 
 /// Runs the script that the input is, as the words say, and writes the report of the run to the output.
 pub(crate) fn rehearse<F: Files, S: Source, K: Sink, H: Handler>(

@@ -7,8 +7,8 @@ ghost use Rattle.thrift_host.specs.declared.status.Status.TheVariants as statuse
 
 use crate::status::Status;
 use command_line::WordsFault;
-use streams::{Sink, write_all};
 use std::alloc::AllocError;
+use streams::{Sink, write_all};
 
 /// Ends the command with a status that has a fixed line, which goes to the errors.
 pub(crate) fn end<E: Sink>(errors: &mut E, status: Status) -> Status

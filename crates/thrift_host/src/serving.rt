@@ -17,12 +17,12 @@ use call_rules::Handler;
 use command_line::ServedIdl;
 use conn_table::Limits;
 use outside::{Binder, Gate};
-use streams::{Files, Sink};
 use port_serving::{PortFault, ServedPort, serve_port};
 use processor::Office;
 use std::alloc::Global;
 use std::sync::Wait;
 use std::thread::Threads;
+use streams::{Files, Sink};
 
 /// Why connections at a port aren't served until all is over.
 #[derive(Drop)]

@@ -25,8 +25,8 @@ use command_line::ServedIdl;
 use conn_table::Limits;
 use envelope::Protocol;
 use idl_check::program_schema;
+use limits::{LONGEST_PAYLOAD, USUAL_PAYLOAD};
 use outside::Gate;
-use streams::{Files, Sink};
 use processor::Office;
 use recorded_runs::{ServingFault, Work, serve_workload};
 use schema::Schema;
@@ -34,6 +34,7 @@ use service_binding::{BindWords, Word};
 use std::alloc::{AllocError, Global};
 use std::sync::Wait;
 use std::thread::Threads;
+use streams::{Files, Sink};
 use workload::is_calculator;
 
 /// What a workload serves, as words would say it.
@@ -50,8 +51,8 @@ pub(crate) fn workload_words(alloc: Global, workers: u32) -> Result<ServedIdl, A
         pairs: BindWords::new(pairs),
         default_service: None,
         limits: Limits {
-            max_frame: 16_384_000,
-            read_budget: 268_435_456,
+            max_frame: USUAL_PAYLOAD,
+            read_budget: LONGEST_PAYLOAD,
         },
     })
 }

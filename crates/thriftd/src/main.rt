@@ -6,7 +6,6 @@ use call_rules::Handler;
 use house_handlers::{Mirror, Store};
 use net_links::NetBinder;
 use outside::EmptyGate;
-use streams::{RealFiles, RealIn, RealOut};
 use std::alloc::AllocError;
 use std::fs::{self, File};
 use std::io::ErrorKind;
@@ -15,6 +14,7 @@ use std::process::ExitCode;
 use std::sync::Wait;
 use std::thread::Threads;
 use std::{env, io};
+use streams::{RealFiles, RealIn, RealOut};
 use thrift_host::{Status, host};
 
 fn main(rt: HostRuntime) -> ExitCode {

@@ -1,9 +1,9 @@
 //! A vector as a sink.
 ghost use Rattle.std.specs.Prelude.{◌≡◌, take, IsErr, IsOk, MatchResult, OnErr, OnOk};
 
-use streams::{Failed, Sink};
 use std::alloc::AllocError;
 use std::mem;
+use streams::{Failed, Sink};
 
 /// A vector as a sink: what is written is appended to it, and a write fails where there is no memory for it.
 #[derive(Drop)]

@@ -5,9 +5,9 @@ ghost use Rattle.script_model.specs.ScriptLines.{opening, input_end, count_up};
 ghost use Rattle.script_text.specs.Plans.{plain_line, plain_rules};
 ghost use Rattle.workload.specs.LoadPlan.{pieces_of, most_pieces, piece_line, round, rounds, plan_of_streams};
 
-use streams::Bytes;
 use script_text::{RuleList, ScriptLine};
 use std::alloc::{AllocError, Global};
+use streams::Bytes;
 
 /// How many bytes a piece has; the last one of a connection may have fewer.
 const PIECE_SIZE: usize = 61;

@@ -5,8 +5,8 @@ ghost use Rattle.workload.specs.CallFrames.{frame_by};
 ghost use Rattle.workload.specs.LoadPlan.{connections_of, bytes_on, all_bytes};
 
 use crate::frames::{number_after, put_frame};
-use streams::Bytes;
 use std::alloc::{AllocError, Global};
+use streams::Bytes;
 
 /// The number of connections of a workload of so many frames.
 pub fn connections_of(size: u32) -> u32

@@ -6,8 +6,8 @@ ghost use Rattle.host_model.specs.Conversation.{answer_at, called, reply_for, se
 ghost use Rattle.host_model.specs.Plain.{decision_seen, journal_seen};
 
 use super::journals::PlainEntry;
-use streams::{Bytes, EnvelopeFault};
 use std::alloc::{AllocError, Global};
+use streams::{Bytes, EnvelopeFault};
 
 /// What is decided on a payload.
 #[derive(Drop)]

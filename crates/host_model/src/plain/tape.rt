@@ -3,8 +3,8 @@
 ghost use Rattle.std.specs.Prelude.{◌≡◌, IfOk};
 ghost use Rattle.host_model.specs.Marks.{connection_of, marks_of, read_by, written_by, input, output};
 
-use streams::{Bytes, Mark};
 use std::alloc::{AllocError, Global};
+use streams::{Bytes, Mark};
 
 /// The number of the connection that a mark is of.
 fn connection_of(mark: &Mark) -> u32

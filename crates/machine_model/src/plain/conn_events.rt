@@ -8,8 +8,8 @@ ghost use Rattle.machine_model.specs.Seen.{conn_of, conns_of, loop_of, conn_even
 use super::conns::{PlainConn, ends, fails_read, fails_write, gives_up, reads, writes};
 use host_model::EndCause;
 use limits::MOST_CONNECTIONS;
-use streams::{Bytes, Mark};
 use std::alloc::{AllocError, Global};
+use streams::{Bytes, Mark};
 
 /// What happens on a connection alone; connections have numbers, from 0.
 #[derive(Drop)]

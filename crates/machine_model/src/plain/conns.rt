@@ -9,8 +9,8 @@ ghost use Rattle.machine_model.specs.Seen.{conn_of, seen_progress};
 
 use super::progress::{PlainProgress, progress_by};
 use host_model::EndCause;
-use streams::{Bytes, Mark};
 use std::alloc::{AllocError, Global};
+use streams::{Bytes, Mark};
 
 /// A connection.
 #[derive(Drop)]

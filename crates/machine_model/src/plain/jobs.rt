@@ -13,8 +13,8 @@ use super::halls::{PlainHall, PlainJobOutcome, take_first, take_out};
 use super::workers::{PlainWorkerState, worker_at};
 use host_model::Key;
 use host_model::plain::{Decided, PlainDesk};
-use streams::{Bytes, Settled};
 use std::alloc::{AllocError, Global};
+use streams::{Bytes, Settled};
 
 /// A job is taken, where there is one. Tells whether the worker can take any.
 #[tactic(auto, using(crate::proofs::Seeing::takings))]

@@ -10,8 +10,8 @@ use super::conn_events::PlainLoop;
 use super::conns::{PlainConn, closing};
 use super::halls::{PlainJob, take_first};
 use host_model::{EndCause, Key};
-use streams::{Mark, Settled};
 use std::alloc::{AllocError, Global};
+use streams::{Mark, Settled};
 
 /// The first payload of a connection that isn't submitted, where there is one, in memory of its own.
 #[tactic(auto, using(crate::proofs::Seeing::payloads))]
