@@ -53,8 +53,8 @@ use Rattle.host_loop.specs.Lengths.{transfer_of, LengthIsRight, AreLengths}
 use Rattle.host_loop.specs.Rests.{IsNotedRest, AreNotedRests}
 use Rattle.host_loop.specs.Served.{ServerSetting, ServedRun, ComesOutBy, AreServicesLeft, AreLinksLeft, rules_served, IsServed}
 use Rattle.host_loop.specs.Ending.{EndTells, EndsServing}
-use Rattle.host_loop.proofs.Moments.{PassesBy, HasBehind, passes}
-use Rattle.host_loop.proofs.Troubles.{Accounted, account, closed_breaks}
+use Rattle.machine_model.proofs.OwnOrder.{PassesBy, HasBehind, passes}
+use Rattle.machine_model.proofs.Troubles.{Accounted, account, closed_breaks}
 use Rattle.host_loop.proofs.Unbroken.{unbroken}
 use Rattle.host_loop.proofs.Lent.{MadeAt, made_at, lent_count, weave_grows}
 use Rattle.host_loop.proofs.Noted.{place_of_rest, over_budget, length_right}

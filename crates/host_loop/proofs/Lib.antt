@@ -1,6 +1,4 @@
 mod HandedOn
-mod Moments
-mod Troubles
 mod Unbroken
 mod Lent
 mod Growing

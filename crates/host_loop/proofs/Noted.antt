@@ -34,7 +34,7 @@ use Rattle.script_model.proofs.Tracing.{IsTraced, run_traced}
 use Rattle.script_model.proofs.Written.{sent_stays}
 use Rattle.loop_conns.specs.Woven.{missing_of, held_if_open, all_held}
 use Rattle.host_loop.specs.Lengths.{LengthIsRight, IsLentWhatIsMissing, OffersWhatIsLeft}
-use Rattle.host_loop.proofs.Moments.{PassesBy}
+use Rattle.machine_model.proofs.OwnOrder.{PassesBy}
 use Rattle.host_loop.proofs.Lent.{LentFor}
 use Rattle.host_loop.proofs.Growing.{Grows, run_grows}
 

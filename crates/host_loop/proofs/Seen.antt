@@ -15,7 +15,7 @@ use Rattle.hall_core.specs.Meant.{ServedHall}
 use Rattle.hall_core.specs.Following.{asks_by}
 use Rattle.hall_pool.specs.Turns.{asks_made}
 use Rattle.hall_pool.specs.Jobs.{HallSeat}
-use Rattle.host_loop.proofs.Troubles.{Troubles, troubles, fault_by}
+use Rattle.machine_model.proofs.Troubles.{Troubles, troubles, fault_by}
 
 -- entries that a journal may have
 some_entries : {X : Type 0} (o : Option (List X)) → (entries : List X) × MayHave o entries

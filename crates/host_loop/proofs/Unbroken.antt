@@ -25,8 +25,8 @@ use Rattle.machine_model.proofs.Lists.{get_within}
 use Rattle.machine_model.proofs.Standing.{under_way_left}
 use Rattle.machine_model.proofs.Running.{keeps}
 use Rattle.machine_model.proofs.Merging.{first_is}
-use Rattle.host_loop.proofs.Moments.{hand_behind, EndsAt, HasBehind, ends_at}
-use Rattle.host_loop.proofs.Troubles.{account}
+use Rattle.machine_model.proofs.OwnOrder.{hand_behind, EndsAt, HasBehind, ends_at}
+use Rattle.machine_model.proofs.Troubles.{account}
 
 -- an operation applies a call
 abbrev is_apply : {C : Type 0} → HallOperation C → Bool

@@ -28,3 +28,5 @@ pub mod Weaving
 pub mod Seeing
 pub mod Picking
 pub mod WrongSteps
+pub mod Troubles
+pub mod OwnOrder

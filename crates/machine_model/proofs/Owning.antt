@@ -415,7 +415,7 @@ module _ {C A M : Type 0} where
         (ap (λ (h : HallState C A M). length h.memories) g) (λ k b. refl) refl refl
     after_op close _ g may = absurd g
 
-  owned_all : (r : ServiceRules C A M) (opening : HallState C A M) (front : List (HallAsk C A)) (back : List (HallCall C A M)) (hall : HallState C A M) → Owned opening front hall → IsHistory (HallGives r) hall back
+  pub owned_all : (r : ServiceRules C A M) (opening : HallState C A M) (front : List (HallAsk C A)) (back : List (HallCall C A M)) (hall : HallState C A M) → Owned opening front hall → IsHistory (HallGives r) hall back
       → AllAllowed (HallMay r) opening (front ++ asks_of back) → Owned opening (front ++ asks_of back) (meaning_after hall back)
   owned_all r opening front [] hall o history allowed = subst (λ log. Owned opening log hall) (sym (append-nil front)) o
   owned_all r opening front (e ∷ back) hall o history allowed =

@@ -78,7 +78,7 @@ module _ {C A M : Type 0} (d : DeskRules C A) (r : ServiceRules C A M) (Has : �
       (answer, cell.loop, hall, refl, g, ap (λ hs. record cell { hall = hall; workers = hs }) (same_workers cell.workers seat worker asks))
 
   -- what each seat but the loop's still asks leads its worker to the hand that it is to have at last
-  abbrev AllWork : Cell C A M → List (HallCall C A M) → Type 0
+  abbrev pub AllWork : Cell C A M → List (HallCall C A M) → Type 0
   AllWork cell log = (v : ℕ) → v ≢ 0 → WorksTo d (Has v) (cell.workers v) (map op_with_answer (calls_by v (asks_of log)))
 
   -- where a run of these events ends
@@ -152,7 +152,7 @@ module _ {C A M : Type 0} (d : DeskRules C A) (r : ServiceRules C A M) (Has : �
           (subst (λ own. WorksTo d (Has v) (cell.workers v) (map op_with_answer own)) (calls_by-first-other v (ask_of e) (asks_of log) (λ q. other (sym q))) (work v m))
 
   -- A history and the loop's own order run on to their end.
-  abbrev RunsOn : List (HallCall C A M) → Type 0
+  abbrev pub RunsOn : List (HallCall C A M) → Type 0
   RunsOn log =
       (weave : List (LoopItem C A)) (cell : Cell C A M) (loop : Loop) → IsHistory (HallGives r) cell.hall log → calls_by 0 (asks_of log) ≡ calls_in weave
       → Weaves d.max cell.loop weave loop → AllWork cell log → EndsAt cell loop (meaning_after cell.hall log)
@@ -191,7 +191,7 @@ module _ {C A M : Type 0} (d : DeskRules C A) (r : ServiceRules C A M) (Has : �
       go (inl zeroth) = by_loop e log on x items cell loop h t (next_of_loop cell e log x items zeroth same work)
       go (inr n) = by_worker e log on (calls x ∷ items) cell loop h t (next_of_worker cell e log (x ∷ calls_in items) n same work)
 
-  runs_on : (log : List (HallCall C A M)) → RunsOn log
+  pub runs_on : (log : List (HallCall C A M)) → RunsOn log
   runs_on [] = no_calls_left
   runs_on (e ∷ log) = one_call_more e log (runs_on log)
 
