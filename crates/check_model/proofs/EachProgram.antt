@@ -166,9 +166,6 @@ module _ (program : Program) (leads : (graph : Graph) (a b : ℕ) → Told (Lead
   means file t h = type_means program typedefs_known acyclic (on (alias_graph program)) file t h
 
   -- a type means something where it does with all typedefs followed
-  all_deep : ℕ
-  all_deep = length (typedefs_of program)
-
   again : (n : ℕ) (file : ℕ) (t : TypeExpr) (k : PlainKind) → kind_by (alias_kind program n) program file t ≡ Some k
       → Known (kind_by (alias_kind program (length (typedefs_of program))) program file t)
   again n file (base_expr b) k e = (k, e)

@@ -1,5 +1,5 @@
 -- What evaluating comes to: something, with how many values were evaluated by then, or the first fault.
-use Rattle.std.specs.Prelude.{ℕ, zero, suc, Bool, true, false, nat_le, Option, Some, None}
+use Rattle.std.specs.Prelude.{ℕ, zero, suc, Bool, true, false, nat_le}
 use Rattle.idl_token.specs.declared.Place.{Place}
 use Rattle.limits.specs.Limits.{most_values, most_levels}
 
@@ -34,11 +34,6 @@ seen_at at (flawed inside flaw) = flawed at flaw
 abbrev pub only_if : {A : Type 0} → Bool → Place → ConstFlaw → Worth A → Worth A
 only_if true at flaw worth = worth
 only_if false at flaw worth = flawed at flaw
-
--- what is there, else a fault
-abbrev pub some_or : {A : Type 0} → Option A → Place → ConstFlaw → ℕ → Worth A
-some_or None at flaw count = flawed at flaw
-some_or (Some x) at flaw count = valued x count
 
 -- how many values a constant has at most, itself included
 unfoldable pub most_const_values : ℕ

@@ -1,14 +1,14 @@
 -- Passes, one after another.
 use Rattle.std.proofs.Common.{◌≡◌, inl, inr, List, [], ◌∷◌, ◌++◌, Option, None, Some, refl, sym, subst}
-use Rattle.std.specs.Prelude.{MatchOption, MatchResult, Result, Ok, Err, IfErr, IfOk}
+use Rattle.std.specs.Prelude.{MatchOption, MatchResult, Result, Ok, Err, IfOk}
 use Rattle.std.specs.List.{AllByRecursion}
 use Rattle.idl_include.specs.Program.{Program}
-use Rattle.check_model.specs.Passes.{Pass, bad_constant, passes}
+use Rattle.check_model.specs.Passes.{Pass, passes}
 use Rattle.check_model.specs.FirstFlaw.{FlawKind, ProgramFlaw, FindsNothing, IsFirstOf, IsFirstFlaw}
 use Rattle.check_passes.specs.declared.faults.CheckFault.{CheckFault}
 use Rattle.check_passes.specs.declared.faults.CheckKind.TheVariants as check
 use Rattle.check_passes.specs.Faults.{flaw_told, TellsFlaw}
-use Rattle.check_passes.specs.Passed.{IsFirstAmong, ArePassed, spot_passes}
+use Rattle.check_passes.specs.Passed.{IsFirstAmong, ArePassed}
 
 pub tells_more : (P Q : ProgramFlaw → Type 0) → ((flaw : ProgramFlaw) → P flaw → Q flaw) → (fault : CheckFault) → TellsFlaw P fault → TellsFlaw Q fault
 tells_more P Q f fault h = by (flaw_told fault.kind) h
@@ -84,10 +84,3 @@ first_is_flaw program flaw k =
 
 pub first_of_all : (program : Program) (fault : CheckFault) → TellsFlaw (IsFirstAmong program passes) fault → TellsFlaw (IsFirstFlaw program) fault
 first_of_all program fault h = tells_more (IsFirstAmong program passes) (IsFirstFlaw program) (first_is_flaw program) fault h
-
--- ---- passes over spots
-
-pub first_at_spots : {A : Type 0} (program : Program) (result : Result A CheckFault) → ArePassed program spot_passes result
-    → IfErr result (TellsFlaw (IsFirstFlaw program))
-first_at_spots program (Ok made) h = tt
-first_at_spots program (Err fault) h = first_of_all program fault (stops program spot_passes (bad_constant ∷ []) fault h)

@@ -12,7 +12,7 @@ use Rattle.idl_include.specs.TypeExpr.{TypeExpr, base_expr, name_expr, map_expr,
 use Rattle.idl_include.specs.Declarations.{StructDecl}
 use Rattle.idl_include.specs.Program.{Program}
 use Rattle.idl_include.specs.Numbering.{Filed, structs_of}
-use Rattle.idl_include.specs.Names.{an_alias, an_enum, a_struct, type_named}
+use Rattle.idl_include.specs.Names.{an_alias, type_named}
 use Rattle.idl_names.specs.declared.filed.InFile.{InFile}
 use Rattle.idl_names.specs.FiledIn.{filed_structs}
 use Rattle.schema.specs.declared.types.TypeDesc.{TypeDesc}
@@ -78,21 +78,6 @@ named_is (name_expr other) name e = ap name_expr (somes other name e)
 named_is (map_expr key value) name e = absurd (none_some name e)
 named_is (set_expr member) name e = absurd (none_some name e)
 named_is (list_expr element) name e = absurd (none_some name e)
-
--- ---- names
-
-pub unnamed_is_none : (program : Program) (file : ℕ) (name : Written) → type_named program file name.text ≡ None → IsStructMeant program file (name_expr name) None
-unnamed_is_none program file name e k p =
-    none_some (kind_struct k) (sym (ap (option_and_then (named_kind (alias_kind program p.0))) e) ∙ p.1)
-
-pub enum_is_none : (program : Program) (file : ℕ) (name : Written) (n : ℕ) → type_named program file name.text ≡ Some (an_enum n)
-    → IsStructMeant program file (name_expr name) None
-enum_is_none program file name n e k p =
-    let same : Some (kind_enum n) ≡ Some (kind_struct k) = sym (ap (option_and_then (named_kind (alias_kind program p.0))) e) ∙ p.1 in cc
-
-pub struct_is_some : (program : Program) (file : ℕ) (name : Written) (n : ℕ) → type_named program file name.text ≡ Some (a_struct n)
-    → IsStructMeant program file (name_expr name) (Some n)
-struct_is_some program file name n e = (0, ap (option_and_then (named_kind (alias_kind program 0))) e)
 
 -- ---- typedefs
 

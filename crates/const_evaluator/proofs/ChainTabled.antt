@@ -171,14 +171,6 @@ behind_past [] further which past = refl
 behind_past (l ∷ links) further zero past = absurd (omega (arith, past))
 behind_past (l ∷ links) further (suc which) past = behind_past links further which (omega (arith, past))
 
-pub settled_more : (links : List Link) (ends : List (Option ChainEnd)) (i : ℕ) → (end_in ends i ≡ None → end_at_link links (end_in ends) i ≡ None) → AreSettledBelow links ends i
-    → AreSettledBelow links ends (i + 1)
-settled_more links ends i here below which less =
-    elim (cases_lt which i) [
-      | inl further ↦ below which further
-      | inr past ↦ (let same : i ≡ which = omega (arith, less, past) in subst (λ k. end_in ends k ≡ None → end_at_link links (end_in ends) k ≡ None) same here)
-    ]
-
 pub settled_end : (links : List Link) (ends : List (Option ChainEnd)) (i : ℕ) → length links ≤ i → AreSettledBelow links ends i → AreSettled links ends
 settled_end links ends i past below which h =
     elim (cases_lt which i) [

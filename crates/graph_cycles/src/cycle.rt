@@ -63,7 +63,7 @@ fn last_node(
     Ok(goal)
 }
 
-// The same from an empty queue.
+// The same from a queue that holds `goal` alone.
 fn last_by(
     alloc: Global,
     graph: &[Vec<u32>],

@@ -17,7 +17,7 @@ struct Parts {
     part: u32,
 }
 
-// Takes the last of the open nodes, if it was met behind the one with this number.
+// Takes the last of the open nodes, if it was met after the one with this number.
 fn taken(open: &mut Vec<u32>, numbers: &[u32], number: u32) -> Option<u32> {
     match open.as_slice().last().copied() {
         Some(last) if at(numbers, last) >= number => open.pop(),
@@ -53,7 +53,7 @@ impl Parts {
         Ok(())
     }
 
-    // The open nodes that were met behind a node become a part with it.
+    // The open nodes that were met after a node become a part with it.
     fn close(&mut self, numbers: &mut [u32], node: u32, number: u32) {
         put(numbers, node, self.part);
         for _ in 0..self.open.len() {

@@ -38,13 +38,6 @@ one_given [] e at count = absurd (omega arith)
 one_given (x ∷ []) e at count = refl
 one_given (x ∷ y ∷ more) e at count = absurd (omega arith)
 
--- another number of fields
-pub not_one_given : (items : List (ℤ × Value)) → (length items ≡ 1 → ⊥) → (at : Place) (count : ℕ)
-    → union_worth (map given_in_memory items) at count ≡ union_worth [] at count
-not_one_given [] e at count = refl
-not_one_given (x ∷ []) e at count = absurd (e refl)
-not_one_given (x ∷ y ∷ more) e at count = refl
-
 pub key_is : (key : ConstTree) (literal : Literal) → key ≡ of.Literal literal → value_in key ≡ literal_const (literal_in literal)
 key_is key literal is = ap value_in is ∙ search (rules, the_lemmas)
 

@@ -10,7 +10,6 @@ pub mod InFront
 pub mod OwedSteps
 pub mod Stopping
 pub mod Braces
-pub mod Written
 pub mod AllFree
 pub mod WholeNumbers
 pub mod Fuel

@@ -1,18 +1,14 @@
 -- Whole numbers among those that digits and places write.
-use Rattle.std.proofs.Common.{◌≡◌, ℕ, zero, suc, ℤ, pos, negsuc, ◌+◌, ◌-◌, ◌*◌, ◌/◌, ◌%◌, ◌^◌, ◌<◌, ◌≤◌, ◌==◌, min, nat_le, Bool, true, false, cond, List, [], ◌∷◌, ◌++◌, length, get_or, take, drop, Option, Some, None, refl, sym, ap, ◌∙◌, subst, arith, length-append, drop-cons, add-one}
+use Rattle.std.proofs.Common.{◌≡◌, ℕ, zero, suc, pos, ◌+◌, ◌-◌, ◌*◌, ◌/◌, ◌%◌, ◌^◌, ◌<◌, ◌≤◌, ◌==◌, min, nat_le, Bool, true, false, cond, List, [], ◌∷◌, ◌++◌, length, get_or, take, drop, Option, Some, None, refl, sym, ap, ◌∙◌, subst, arith, length-append, drop-cons, add-one}
 use Rattle.std.specs.Option.{option_map}
 use Rattle.std.specs.List.{prefix_len}
 use Rattle.std.specs.Char.{is_ascii_digit}
 use Rattle.std.proofs.Math.Nat.{mul-le-mul_left, mul-le-mul_right, pow-suc}
-use Rattle.std.proofs.lemmas.Bool.{false≢true}
 use Rattle.std.proofs.lemmas.Bool.Decides.{nat_tests}
 use Rattle.std.proofs.lemmas.Nat.{pow-add, div-mul-add, mod-mul-add}
-use Rattle.std.specs.Int.RustNames.{unsigned_abs}
-use borrow.Author.Tests.{ltb-true}
 use lib.IntN.{neg_ℤ}
-use lib.Signed.{lt_z}
 use Rattle.idl_token.specs.Numbers.{digit_value, value_behind}
-use Rattle.check_model.specs.WholeDoubles.{whole_number, within_doubles, signed_within, places_up, places_down}
+use Rattle.check_model.specs.WholeDoubles.{whole_number, within_doubles, signed_within}
 use Rattle.idl_const.specs.Digits.{AreDigits, capped}
 
 -- the digits in front are digits, and so are parts of digits
@@ -33,10 +29,6 @@ digits_behind zero [] h = tt
 digits_behind zero (x ∷ xs) h = h
 digits_behind (suc n) [] h = tt
 digits_behind (suc n) (x ∷ xs) h = digits_behind n xs h.1
-
-digits_append : (xs ys : List ℕ) → AreDigits xs → AreDigits ys → AreDigits (xs ++ ys)
-digits_append [] ys h k = k
-digits_append (x ∷ xs) ys h k = (h.0, digits_append xs ys h.1 k)
 
 digit_small : (b : ℕ) → is_ascii_digit b ≡ true → digit_value b ≤ 9
 digit_small b is = grind (arith, nat_tests)
@@ -172,9 +164,6 @@ kept_tied front places (suc left) is size = ap (λ n. value_behind 10 0 (take (s
 
 -- numbers up to the cap
 
-pub capped_le : (n : ℕ) → capped n ≤ 2 ^ 53 + 1
-capped_le n = omega arith
-
 -- a number that is capped stays the same where its cap is
 capped_grows : (n m : ℕ) → capped n ≡ capped m → (d : ℕ) → capped (n * 10 + d) ≡ capped (m * 10 + d)
 capped_grows n m e d = omega (arith, e)
@@ -212,15 +201,6 @@ within_by negative n false e =
 pub sign_capped : (negative : Bool) (whole : Option ℕ) → signed_within negative (option_map capped whole) ≡ signed_within negative whole
 sign_capped negative None = refl
 sign_capped negative (Some n) = within_by negative n (nat_le n (2 ^ 53)) refl
-
--- places of an exponent by its sign
-pub places_below : (z : ℤ) (n : ℕ) → n ≡ unsigned_abs z → lt_z z (pos 0) ≡ true → (places_up z ≡ 0) × (places_down z ≡ n)
-places_below (pos m) n is below = absurd (let h = ltb-true m 0 below in omega arith)
-places_below (negsuc m) n is below = (refl, sym is)
-
-pub places_from : (z : ℤ) (n : ℕ) → n ≡ unsigned_abs z → lt_z z (pos 0) ≡ false → (places_up z ≡ n) × (places_down z ≡ 0)
-places_from (pos m) n is above = (sym is, refl)
-places_from (negsuc m) n is above = absurd (false≢true (sym above))
 
 -- steps of loops
 

@@ -52,10 +52,6 @@ base_is base.String = refl
 base_is base.Binary = refl
 base_is base.Uuid = refl
 
--- types
-type_base : (b : Base) (at : _) → type_expr (type_step (of_type.Base at b)) ≡ base_expr b
-type_base b at = ap base_expr (base_is b)
-
 abbrev TypeIs : TypeTree → Type 0
 TypeIs t = type_expr (type_node t) ≡ type_in t
 

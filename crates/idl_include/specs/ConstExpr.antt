@@ -1,5 +1,5 @@
 -- Constant values as they are written (Thrift IDL, 'Constant Values').
-use Rattle.std.specs.Prelude.{ℕ, suc, ℤ}
+use Rattle.std.specs.Prelude.{ℤ}
 use Rattle.idl_token.specs.declared.Place.{Place}
 use Rattle.idl_include.specs.Written.{Written}
 
@@ -35,8 +35,3 @@ place_of_const (literal_const literal) = literal.at
 place_of_const (name_const name) = name.at
 place_of_const (list_const at _) = at
 place_of_const (map_const at _) = at
-
--- how many keys with their values there are
-abbrev pub entry_count : ConstEntries → ℕ
-entry_count no_entries = 0
-entry_count (const_entry key value more) = suc (entry_count more)

@@ -117,10 +117,6 @@ inherits_twice = one_file (of_service (record { name = written_at (codes "A") 9;
 abbrev pub extends_itself : Program
 extends_itself = one_file (of_service (record { name = written_at (codes "A") 9; parent = Some (written_at (codes "A") 19); functions = [] }) ∷ [])
 
--- `struct S { 1: required S s }`
-abbrev pub holds_itself : Program
-holds_itself = one_file (small_struct (record { at = column 12; id = Some (pos 1); need = need.Required; type = name_expr (written_at (codes "S") 24); name = written_at (codes "s") 26; default = None } ∷ []) ∷ [])
-
 -- `typedef X U struct T {} exception X {}`
 abbrev pub named_kinds : Program
 named_kinds = one_file (of_typedef (record { name = written_at (codes "U") 11; type = name_expr (written_at (codes "X") 9) })

@@ -111,12 +111,6 @@ one_more_in maps file name number old new l here more f other = by (eqb_tells fi
         ∙ sym (option_or_none (number_in_file maps f other))
         ∙ ap (λ (b : Bool). option_or (number_in_file maps f other) (number_if (b && bytes_eq name other) number)) (sym t)
 
-pub one_more_file : (maps : List NameMap) (new : NameMap) → new.entries ≡ [] → (f : ℕ) (other : List ℕ) → number_in_file (maps ++ new ∷ []) f other ≡ number_in_file maps f other
-one_more_file [] new e zero other = ap (among other) e
-one_more_file [] new e (suc f) other = refl
-one_more_file (m ∷ maps) new e zero other = refl
-one_more_file (m ∷ maps) new e (suc f) other = one_more_file maps new e f other
-
 -- ---- positions
 
 position_behind : (b : Bool) (i : ℕ) (o p q : Option ℕ) → p ≡ option_or o q → cond b (Some i) p ≡ option_or (cond b (Some i) o) q

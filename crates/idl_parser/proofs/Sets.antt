@@ -56,10 +56,6 @@ starts_right : (xs ys : List Terminal) (ts : List Lexeme) → starts_in ys ts �
 starts_right xs ys [] h = cc
 starts_right xs ys (t ∷ ts) h = has_right xs ys t.what h
 
-pub some_symbol : (xs : List Terminal) (ts : List Lexeme) → starts_in xs ts ≡ true → 0 < length ts
-some_symbol xs [] h = cc
-some_symbol xs (t ∷ ts) h = omega arith
-
 -- the first symbols of a chain
 grow_left : (b : Bool) (xs ys : List Terminal) (ts : List Lexeme) → starts_in xs ts ≡ true → starts_in (elim b [ true ↦ xs ++ ys | false ↦ xs ]) ts ≡ true
 grow_left true xs ys ts h = starts_left xs ys ts h

@@ -266,8 +266,3 @@ impl Drop for Document {
         drop(definitions);
     }
 }
-
-impl Document {
-    /// Lets the document go. Who calls this needn't prove again how each of its parts goes.
-    pub fn release(self) {}
-}

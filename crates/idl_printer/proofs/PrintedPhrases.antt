@@ -212,13 +212,6 @@ quiet_word nothing a_text = record {
       (none, (ts, l.0, r.0, l.1, r.1, refl));
 }
 
-pub word_nothing : {P : List ℕ → Bool} {p : Phrase} → IsNothing p → IsWord P p []
-word_nothing {P} {p} nothing = record {
-  marks = [];
-  spells = spells_nothing _;
-  stands = λ ts rest m. let l = nothing.left_out rest in (l.0, subst (λ ts. Derives p ts l.0 rest) (sym m) l.1);
-}
-
 pub word_maybe : {P : List ℕ → Bool} {f : Node → Node} {p : Phrase} {text : List ℕ} → IsWord P p text → IsWord P (maybe f p) text
 word_maybe {P} {f} a_text = record {
   marks = a_text.marks;

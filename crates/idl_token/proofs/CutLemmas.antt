@@ -1,14 +1,12 @@
 -- Cutting a text into pieces.
-use Rattle.std.proofs.Common.{◌≡◌, ◌≢◌, Bool, true, cond, ℕ, zero, suc, ◌+◌, ◌<◌, ◌≤◌, List, [], ◌∷◌, ◌++◌, length, drop, refl, sym, ap, ◌∙◌, subst, arith}
+use Rattle.std.proofs.Common.{◌≡◌, ◌≢◌, ℕ, zero, suc, ◌+◌, ◌<◌, ◌≤◌, List, [], ◌∷◌, ◌++◌, length, drop, refl, sym, ap, ◌∙◌, subst, arith}
 use mathlib.Core.List.{append-nil}
 use Rattle.std.proofs.lemmas.List.{length-drop}
 use Rattle.idl_token.specs.Pieces.{IsFrontPiece}
-use Rattle.idl_token.specs.Places.{line_and_column}
-use Rattle.idl_token.specs.Tokens.{size_of, end_of, tokens_in, IsFaultless, Cuts, AreTokensOf, IsFirstLexFault}
+use Rattle.idl_token.specs.Tokens.{size_of, end_of, tokens_in, IsFaultless, Cuts}
 use Rattle.idl_token.specs.declared.pieces.Piece.{Piece}
 use Rattle.idl_token.specs.declared.pieces.Piece.TheVariants.{Blank, Token as Tok, Fault}
 use Rattle.idl_token.specs.declared.Token.{Token}
-use Rattle.idl_token.specs.declared.LexFault.{LexFault}
 
 -- one more piece
 cuts_more : (text : List ℕ) (ps : List Piece) (p : Piece) (rest : List ℕ) → Cuts text ps rest → rest ≢ [] → IsFaultless p → IsFrontPiece rest p → Cuts text (ps ++ p ∷ []) (drop (size_of p) rest)
@@ -36,9 +34,6 @@ pub record CutUpTo (text : List ℕ) (at : ℕ) (ts : List Token) : Type 0 where
   pub place : end_of 0 pieces ≡ at
   pub are : ts ≡ tokens_in 0 pieces
 
-pub cut_none : (text : List ℕ) → CutUpTo text 0 []
-cut_none text = record { pieces = []; inside = omega arith; cut = refl; place = refl; are = refl }
-
 drop_none : (n : ℕ) → drop {A = ℕ} n [] ≡ []
 drop_none zero = refl
 drop_none (suc n) = refl
@@ -50,12 +45,6 @@ drop_drop (suc n) m (b ∷ text) = let is : suc (n + m) ≡ suc n + m = omega ar
 
 some_left : (text : List ℕ) (at : ℕ) → at < length text → drop at text ≢ []
 some_left text at less none = omega (arith, ap length none, length-drop at text)
-
-none_left : (text : List ℕ) (at : ℕ) → at ≤ length text → length text ≤ at → drop at text ≡ []
-none_left [] zero up_to down_to = refl
-none_left [] (suc at) up_to down_to = refl
-none_left (b ∷ text) zero up_to down_to = absurd (omega arith)
-none_left (b ∷ text) (suc at) up_to down_to = none_left text at (omega arith) (omega arith)
 
 module _ (text : List ℕ) (at : ℕ) (ts : List Token) (so_far : CutUpTo text at ts) (left : at < length text) where
   pub cut_blank : (n : ℕ) → IsFrontPiece (drop at text) (Blank n) → n ≤ length (drop at text) → CutUpTo text (at + n) ts
@@ -83,24 +72,3 @@ module _ (text : List ℕ) (at : ℕ) (ts : List Token) (so_far : CutUpTo text a
     place = end_more 0 so_far.pieces (Tok t.kind n) ∙ ap (λ k. k + n) so_far.place;
     are = (λ i. so_far.are i ++ token_is t n so_far.place from to i ∷ []) ∙ sym (tokens_more 0 so_far.pieces (Tok t.kind n));
   }
-
-  pub cut_fault : (f : LexFault) (inside : ℕ) → IsFrontPiece (drop at text) (Fault f.kind inside) → f.at ≡ line_and_column text (at + inside) → IsFirstLexFault f text
-  cut_fault f inside piece place = record {
-    pieces = so_far.pieces;
-    rest = drop at text;
-    inside = inside;
-    cut = so_far.cut;
-    more = some_left text at left;
-    fault = piece;
-    place = place ∙ ap (λ k. line_and_column text (k + inside)) (sym so_far.place);
-  }
-
-pub pushed : (b : Bool) (x y : List Token) → b ≡ true → cond b x y ≡ x
-pushed b x y is = rw is refl
-
-pub cut_whole : (text : List ℕ) (at : ℕ) (ts : List Token) → CutUpTo text at ts → length text ≤ at → AreTokensOf ts text
-cut_whole text at ts so_far over = record {
-  pieces = so_far.pieces;
-  cut = subst (Cuts text so_far.pieces) (none_left text at so_far.inside over) so_far.cut;
-  are = so_far.are;
-}

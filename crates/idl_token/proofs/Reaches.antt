@@ -39,9 +39,6 @@ sign_alike (suc m) text =
 pub decimal_reach : (text : List ℕ) → Reach is_decimal text (decimal_len text)
 decimal_reach text = behind behind_sign (is_run is_ascii_digit) text (sign_in text) _ (λ m. sign_alike m text) refl (run_reach is_ascii_digit (behind_sign text))
 
-begins_hexadecimal : List ℕ → Bool
-begins_hexadecimal text = slice_index text 0 == 48 && slice_index text 1 == 120
-
 pub hexadecimal_reach : (text : List ℕ) → Reach is_hexadecimal text (hexadecimal_len text)
 hexadecimal_reach text =
     guarded (λ x. slice_index x 0 == 48 && slice_index x 1 == 120) (λ x. is_run is_ascii_hexdigit (drop 2 x)) text _

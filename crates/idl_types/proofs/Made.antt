@@ -14,7 +14,6 @@ use Rattle.idl_names.specs.FiledIn.{filed_by, filed_typedefs, typedef_declared}
 use Rattle.schema.specs.declared.types.TypeDesc.{TypeDesc}
 use Rattle.schema.specs.PlainKind.{PlainKind, kind_of}
 use Rattle.check_model.specs.Resolved.{kind_by, alias_kind, TypeMeans}
-use Rattle.check_model.proofs.FirstOnes.{none_some}
 use Rattle.idl_types.specs.Known.{known_kind, AreAliasTypes}
 
 set_same : {A : Type 0} (xs : List A) (i : ℕ) (v : A) → i < length xs → slice_get (set xs i v) i ≡ Some v
@@ -70,9 +69,6 @@ none_push (o ∷ made) none (suc n) = none_push made (λ k. none (suc k)) n
 
 pub none_next : (old new : List (Option TypeDesc)) → new ≡ old ++ None ∷ [] → ((n : ℕ) → known_kind old n ≡ None) → (n : ℕ) → known_kind new n ≡ None
 none_next old new pushed none n = ap (λ made. known_kind made n) pushed ∙ none_push old none n
-
-pub none_right : (program : Program) (made : List (Option TypeDesc)) → ((n : ℕ) → known_kind made n ≡ None) → AreAliasTypes program made
-none_right program made none = record { right = λ number kind e. absurd (none_some kind (sym (none number) ∙ e)) }
 
 pub alias_put : {A E : Type 0} (r : Result A E) (program : Program) (typedefs : List (InFile Typedef)) (old new : List (Option TypeDesc)) (i : ℕ) (x : InFile Typedef) (t : TypeDesc)
     → filed_typedefs typedefs ≡ typedefs_of program → i < length typedefs → x ≡ get_or typedefs i x → TypeMeans program x.file (type_in x.item.now.kind) (kind_of t)

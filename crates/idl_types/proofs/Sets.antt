@@ -8,41 +8,14 @@ use Rattle.std.specs.List.{list_any, AllZip}
 use Rattle.std.specs.Str.{bytes_eq}
 use Rattle.std.proofs.lemmas.List.{get_or_default}
 use Rattle.idl_parser.specs.declared.tree.Function.{Function}
-use Rattle.idl_names.specs.NameSets.{NameSet, has_name, HasNameToo}
+use Rattle.idl_names.specs.NameSets.{NameSet, has_name}
 use Rattle.idl_names.proofs.Based.{zip_push, take_past}
-use Rattle.idl_names.proofs.Marked.{any_push, or_right, taken_more}
+use Rattle.idl_names.proofs.Marked.{taken_more}
 use Rattle.idl_types.specs.Inherited.{is_function, is_in_base, HasBoth, IsBase, AreInherited}
-
--- the names of functions more
-pub functions_next : (functions : List Function) (i : ℕ) (f : Function) (text : List ℕ) (first old new : NameSet) → i < length functions → f ≡ get_or functions i f
-    → text ≡ f.name.text → HasNameToo text old new → ((name : List ℕ) → has_name old name ≡ (has_name first name || is_function (take i functions) name))
-    → (name : List ℕ) → has_name new name ≡ (has_name first name || is_function (take (i + 1) functions) name)
-functions_next functions i f text first old new l here named too so_far name =
-    let test : Function → Bool = λ g. bytes_eq g.name.text name in
-    too name
-    ∙ (λ j. so_far name j || bytes_eq (named j) name)
-    ∙ or_right (has_name first name) (is_function (take i functions) name) (test f)
-    ∙ ap (λ b. has_name first name || b) (sym (any_push test (take i functions) f) ∙ ap (list_any test) (sym (taken_more functions i f l here)))
 
 -- the names of another set more
 abbrev pub is_key : List (Bor (List ℕ)) → List ℕ → Bool
 is_key keys name = list_any (λ (key : Bor (List ℕ)). bytes_eq key.now name) keys
-
-pub keys_next : (keys : List (Bor (List ℕ))) (i : ℕ) (key : Bor (List ℕ)) (first old new : NameSet) → i < length keys → key ≡ get_or keys i key → HasNameToo key.now old new
-    → ((name : List ℕ) → has_name old name ≡ (has_name first name || is_key (take i keys) name))
-    → (name : List ℕ) → has_name new name ≡ (has_name first name || is_key (take (i + 1) keys) name)
-keys_next keys i key first old new l here too so_far name =
-    let test : Bor (List ℕ) → Bool = λ k. bytes_eq k.now name in
-    too name
-    ∙ ap (λ b. b || test key) (so_far name)
-    ∙ or_right (has_name first name) (is_key (take i keys) name) (test key)
-    ∙ ap (λ b. has_name first name || b) (sym (any_push test (take i keys) key) ∙ ap (list_any test) (sym (taken_more keys i key l here)))
-
-pub keys_end : (first names set : NameSet) (keys : List (Bor (List ℕ))) (i : ℕ) → length keys ≤ i → keys ≡ names.keys
-    → ((name : List ℕ) → has_name set name ≡ (has_name first name || is_key (take i keys) name))
-    → (name : List ℕ) → has_name set name ≡ (has_name first name || has_name names name)
-keys_end first names set keys i past same so_far name =
-    so_far name ∙ ap (λ (ks : List (Bor (List ℕ))). has_name first name || is_key ks name) (take_past keys i past ∙ same)
 
 -- ---- the names of a parent's set more, and those of functions
 
@@ -64,16 +37,6 @@ no_set_put sets base which r set is at none name =
     or_false (has_name set name)
     ∙ ap (λ (o : Option NameSet). has_name set name || option_map_or (λ (s : NameSet). has_name s name) o false) (sym (ap option_copied none) ∙ got sets which r at)
     ∙ ap (λ (o : Option ℕ). has_name set name || is_in_base sets o name) (sym is)
-
-pub set_put : {A E : Type 0} (r : Result A E) (sets : List NameSet) (base : Option ℕ) (which : ℕ) (item : Option (Bor NameSet)) (other : Bor NameSet) (old new : NameSet)
-    → base ≡ Some which → IsItemAt sets which item → item ≡ Some other
-    → OnOk r ((name : List ℕ) → has_name new name ≡ (has_name old name || has_name other.now name))
-    → OnOk r ((name : List ℕ) → has_name new name ≡ (has_name old name || is_in_base sets base name))
-set_put (Err e) sets base which item other old new is at some put = tt
-set_put (Ok x) sets base which item other old new is at some put = λ name.
-    put name
-    ∙ ap (λ (o : Option NameSet). has_name old name || option_map_or (λ (s : NameSet). has_name s name) o false) (sym (ap option_copied some) ∙ got sets which item at)
-    ∙ ap (λ (o : Option ℕ). has_name old name || is_in_base sets o name) (sym is)
 
 pub both_put : {A E : Type 0} (r : Result A E) (sets : List NameSet) (base : Option ℕ) (functions : List Function) (first mid new : NameSet)
     → ((name : List ℕ) → has_name mid name ≡ (has_name first name || is_in_base sets base name))

@@ -10,10 +10,6 @@ use Rattle.schema.specs.Inherited.{parent_of, lineage_within, lineage, IsLineage
 use Rattle.schema.specs.PlainSchema.{PlainService, PlainSchema}
 use Rattle.schema.specs.Sound.{Extends, HasNoServiceLoop, IsPlaceIn, IsSound, IsSoundService}
 
--- one service reaches another
-Reaches : List PlainService → ℕ → ℕ → Type 0
-Reaches services child parent = (between : List ℕ) × Extends services child between parent
-
 -- one step more
 goes_up : (services : List PlainService) (child : ℕ) (between : List ℕ) (which parent : ℕ) → Extends services child between which
     → parent_of services which ≡ Some parent → Extends services child (between ++ which ∷ []) parent

@@ -1,5 +1,5 @@
 -- The texts of types level by level: a word in front, and the types inside a container, with what stands behind them.
-use Rattle.std.specs.Prelude.{List, [], ◌++◌, ℕ, codes, Option, Some, None}
+use Rattle.std.specs.Prelude.{List, ℕ, codes, Option, Some, None}
 use Rattle.std.specs.Borrow.{Bor}
 use Rattle.std.specs.Option.{option_map}
 use Rattle.schema.specs.declared.types.TypeDesc.{TypeDesc}
@@ -27,12 +27,6 @@ inner_of (kind_list element) = Some (element, None)
 -- the same of types that are lent
 abbrev pub shown_inner : Option (Bor TypeDesc × Option (Bor TypeDesc)) → Option (PlainKind × Option PlainKind)
 shown_inner = option_map (λ p. (kind_of p.0.now, option_map (λ (k : Bor TypeDesc). kind_of k.now) p.1))
-
--- what stands behind the word of a type, where types have this text
-abbrev pub inner_text : (PlainKind → List ℕ) → Option (PlainKind × Option PlainKind) → List ℕ
-inner_text text None = []
-inner_text text (Some (kind, None)) = text kind ++ codes ">"
-inner_text text (Some (kind, Some value)) = text kind ++ (codes "," ++ (text value ++ codes ">"))
 
 -- the word in front in a type's name: all of it where it is no container
 abbrev pub name_front : PlainSchema → PlainKind → List ℕ

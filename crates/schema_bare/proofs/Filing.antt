@@ -2,7 +2,6 @@
 use Rattle.std.proofs.Common.{◌≡◌, ◌≤◌, ◌<◌, ◌+◌, ◌++◌, ℕ, List, [], ◌∷◌, map, length, get_or, drop, refl, ap, sym, ◌∙◌}
 use Rattle.std.proofs.lemmas.List.{append-nil}
 use Rattle.idl_parser.specs.declared.tree.Definition.{Definition}
-use Rattle.idl_include.specs.FileNames.{base_name}
 use Rattle.idl_include.specs.DeclaredIn.{definition_in, definitions_in}
 use Rattle.idl_include.specs.Program.{SourceFile}
 use Rattle.idl_include.specs.Numbering.{Counts, none_counted, counted, all_counted}
@@ -27,12 +26,6 @@ refs_end ds i n xs all past so_far =
 -- a file by itself
 abbrev pub file_behind : Counts → SourceFile → List PlainFile
 file_behind n file = files_behind n (file ∷ [])
-
-pub file_made : (file : IdlFile) (n : Counts) (refs : List DefRef) (p : PlainFile) → file.base ≡ base_name file.name
-    → refs ≡ refs_behind n (map definition_in file.document.definitions.items)
-    → p ≡ record { base = file.base; includes = file.includes.items; defs = refs } → p ∷ [] ≡ files_behind n (file_in file ∷ [])
-unfolding definitions_in
-file_made file n refs p own are is = ap (λ x. x ∷ []) (is ∙ (λ j. record { base = own j; includes = file.includes.items; defs = are j }))
 
 pub file_next : (files : List IdlFile) (i : ℕ) (x : IdlFile) (n m : Counts) (old new all : List PlainFile) → i < length files → x ≡ get_or files i x
     → m ≡ all_counted n (map definition_in x.document.definitions.items) → new ≡ old ++ files_behind n (file_in x ∷ [])

@@ -35,9 +35,6 @@ or_none : {X : Type 0} (x o : Option X) → or_else x o ≡ None → o ≡ None
 or_none None o e = e
 or_none (Some x) o e = absurd (none-some x (sym e))
 
-no_some : {X : Type 0} (x : X) (o : Option X) → o ≡ Some x → o ≡ None → ⊥
-no_some x o e f = none-some x (sym f ∙ e)
-
 -- the arm of a test that was taken
 first_arm : {X : Type 0} (b : Bool) (x y z : X) → b ≡ true → (if b then x else y) ≡ z → x ≡ z
 first_arm true x y z e f = f

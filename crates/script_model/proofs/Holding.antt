@@ -68,9 +68,6 @@ module _ (max : ℕ) where
   pub fits_nothing : Fits []
   fits_nothing = record { bytes = no_bytes; size = λ l. absurd (let f : ⊥ = omega arith in f) }
 
-  pub none_left : (size : ℕ) → None ≡ Some size → ⊥
-  none_left size e = none-some size e
-
   -- a connection that was just opened
   pub new_keeps : (admitted : Option ℕ) → admitted ≡ None → ConnKeeps new_conn admitted
   new_keeps admitted none =

@@ -113,9 +113,6 @@ wrote_append xs ys = ap output (marks_append 0 xs ys) ∙ flat_map-append writte
 pub read_first : (m : Mark) (ms : List Mark) → connection_of m ≡ 0 → read_of (m ∷ ms) ≡ read_by m ++ read_of ms
 read_first m ms own = ap (λ b. input (cond b (m ∷ marks_of 0 ms) (marks_of 0 ms))) (eq-eqb (connection_of m) 0 own)
 
-pub wrote_first : (m : Mark) (ms : List Mark) → connection_of m ≡ 0 → wrote_of (m ∷ ms) ≡ written_by m ++ wrote_of ms
-wrote_first m ms own = ap (λ b. output (cond b (m ∷ marks_of 0 ms) (marks_of 0 ms))) (eq-eqb (connection_of m) 0 own)
-
 -- where nothing is of another number, all is of number 0
 tail_none : {X : Type 0} (b : Bool) (x : X) (xs : List X) → cond b (x ∷ xs) xs ≡ [] → xs ≡ []
 tail_none true x xs e = absurd (nil-cons x xs (sym e))

@@ -1,16 +1,11 @@
 -- How the first file of a name is found among files in memory, and what it is to put bytes there.
-use Rattle.std.proofs.Common.{◌≡◌, ℕ, zero, suc, ◌+◌, ◌<◌, ◌≤◌, List, [], ◌∷◌, ◌++◌, length, drop, get_or, set, Some, None, IsSome, Bool, true, false, if◌then◌else◌, refl, ap, sym, ◌∙◌, subst, arith, add-one, drop-cons, length-drop, map}
+use Rattle.std.proofs.Common.{◌≡◌, ℕ, zero, suc, ◌+◌, ◌<◌, List, [], ◌∷◌, ◌++◌, length, drop, get_or, set, Some, None, IsSome, Bool, true, false, if◌then◌else◌, refl, ap, sym, ◌∙◌, subst, arith, add-one, drop-cons, map}
 use Rattle.std.specs.Str.{bytes_eq}
-use Rattle.std.proofs.lemmas.List.{nil_from_length, length-map, map-set, map-append, get_or-map}
+use Rattle.std.proofs.lemmas.List.{length-map, map-set, map-append, get_or-map}
 use Rattle.std.proofs.lemmas.Slice.Eq.{bytes_eq-Decides}
 use Rattle.streams.specs.Files.{File, content_of}
 use Rattle.streams.specs.Making.{with_file}
 use Rattle.streams.specs.Places.{IsFirstAt, HasPassed}
-
--- none was looked at yet
-pub none_passed : (files : List File) (name : List ℕ) → HasPassed files name 0
-none_passed files name =
-    record { within = omega arith; found = refl; place = λ i first. subst (IsFirstAt files name) (omega arith) first }
 
 -- one more has another name
 pub one_passed : (files : List File) (name : List ℕ) (at : ℕ) (d : File) → at < length files → bytes_eq (get_or files at d).name name ≡ false
@@ -32,11 +27,6 @@ pub first_here : (files : List File) (name : List ℕ) (at : ℕ) (d : File) →
 first_here files name at d here same passed =
     let front : drop at files ≡ get_or files at d ∷ drop (suc at) files = drop-cons files at d here in
     subst (IsFirstAt files name) (omega arith) (passed.place 0 (subst (λ fs. IsFirstAt fs name 0) (sym front) same))
-
--- all were looked at
-pub all_passed : (files : List File) (name : List ℕ) (at : ℕ) → length files ≤ at → HasPassed files name at → content_of files name ≡ None
-all_passed files name at all passed =
-    passed.found ∙ ap (λ fs. content_of fs name) (nil_from_length (drop at files) (omega (arith, length-drop at files)))
 
 -- where it stands there is a file
 pub first_within : (files : List File) (name : List ℕ) (at : ℕ) → IsFirstAt files name at → at < length files

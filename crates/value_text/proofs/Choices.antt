@@ -46,12 +46,6 @@ read x = Ok x
 pub one_ok : {A : Type 0} (x y : A) → read x ≡ read y → x ≡ y
 one_ok x y e = cc
 
-pub first_ok : {A B : Type 0} (x : A × B) (a : A) (b : B) → read x ≡ read (a, b) → x.0 ≡ a
-first_ok x a b e = cc
-
-pub second_ok : {A B : Type 0} (x : A × B) (a : A) (b : B) → read x ≡ read (a, b) → x.1 ≡ b
-second_ok x a b e = cc
-
 -- what was found
 pub was_found : {A B : Type 0} (o : Option A) (f : A → B) (other y : B) → found_or o f other ≡ y → ((x : A) × (o ≡ Some x) × (f x ≡ y)) ⊎ ((o ≡ None) × (other ≡ y))
 was_found (Some x) f other y e = inl (x, refl, e)

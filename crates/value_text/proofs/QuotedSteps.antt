@@ -4,7 +4,7 @@ use Rattle.value_text.specs.declared.stop.TextStop.{TextStop}
 use Rattle.value_text.specs.declared.stop.TextStop.TheVariants as stop
 use Rattle.value_text.specs.Answering.{LeavesAs}
 use Rattle.value_text.specs.Fronts.{◌>>=◌, quoted_byte_at, byte_before, quoted_at}
-use Rattle.value_text.proofs.RowSteps.{in_front, one_in_front, nothing_in_front}
+use Rattle.value_text.proofs.RowSteps.{in_front, one_in_front}
 
 abbrev byte_answer : List ℕ → Option ℕ → Result (Option ℕ × List ℕ) ℕ
 byte_answer behind byte = Ok (byte, behind)
@@ -21,9 +21,6 @@ module _ (most : ℕ) (text : List ℕ) where
       → in_front bytes (quoted_at left rest) ≡ in_front bytes (quoted_byte_at rest >>= λ one. byte_before one.0 one.1 (quoted_at less))
   unfolding quoted_at
   opened left less bytes rest is = ap (λ n. in_front bytes (quoted_at n rest)) is
-
-  pub quoted_begun : (left : ℕ) (bytes : List ℕ) → left ≡ most → bytes ≡ [] → AreQuoted left bytes text
-  quoted_begun left bytes all none = ap (λ bs. in_front bs (quoted_at left text)) none ∙ nothing_in_front (quoted_at left text) ∙ ap (λ n. quoted_at n text) all
 
   pub quoted_stop : (why : TextStop) (left less : ℕ) (bytes rest : List ℕ) → left ≡ suc less → AreQuoted left bytes rest → LeavesAs why (quoted_byte_at rest) → LeavesAs why (quoted_at most text)
   quoted_stop stop.NoMemory left less bytes rest is kept h = tt

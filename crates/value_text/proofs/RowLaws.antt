@@ -32,9 +32,6 @@ next_found close text more rest e =
           subst (λ (x : Bool × List ℕ). text ≡ next_byte close x.0 ∷ x.1) (one_ok (false, closing.0) (more, rest) closing.2) (rest_found close text closing.0 closing.1)
     ]
 
-next_comma : (close : ℕ) (rest : List ℕ) → next_at close (44 ∷ rest) ≡ Ok (true, rest)
-next_comma close rest = refl
-
 next_close : (close : ℕ) (rest : List ℕ) → eqb close 44 ≡ false → next_at close (close ∷ rest) ≡ Ok (false, rest)
 next_close close rest other =
     ap (λ t. found_or (cond t (Some rest) None) (λ r. Ok (true, r)) (found_or (rest_behind close (close ∷ rest)) (λ r. Ok (false, r)) (Err (length (close ∷ rest))))) other

@@ -26,11 +26,6 @@ pub one_in_front : {A : Type 0} (xs : List A) (x : A) (r : Result (List A × Lis
 one_in_front xs x (Ok more) = ap (λ ys. Ok (ys, more.1)) (sym (append_assoc xs (x ∷ []) more.0))
 one_in_front xs x (Err left) = refl
 
--- a reading that stops stops what follows
-stops_on : {A B : Type 0} (why : TextStop) (r : Result A ℕ) (f : A → Result B ℕ) (total : Result B ℕ) → (r >>= f) ≡ total → LeavesAs why r → LeavesAs why total
-stops_on stop.NoMemory r f total is h = tt
-stops_on (stop.Left left) r f total is h = sym is ∙ ap (λ z. z >>= f) h
-
 -- answers of rows
 abbrev row_answer : {A : Type 0} → A → List ℕ → Bool → Result (A × Bool × List ℕ) ℕ
 row_answer x behind more = Ok (x, more, behind)
@@ -52,10 +47,6 @@ module _ {A : Type 0} (entry : Option A → List ℕ → Result (A × List ℕ) 
       ap (λ ys. in_front ys (rows_at entry close left (last_of ys) text)) none
       ∙ nothing_in_front (rows_at entry close left None text)
       ∙ ap (λ n. rows_at entry close n None text) all
-
-  -- what is read of the rest, where a row comes first
-  abbrev behind_row : ℕ → List A → A × Bool × List ℕ → Result (List A × List ℕ) ℕ
-  behind_row left xs row = in_front xs (entries_behind row (rows_at entry close left))
 
   opened : (left less : ℕ) (xs : List A) (rest : List ℕ) → left ≡ suc less
       → in_front xs (rows_at entry close left (last_of xs) rest) ≡ in_front xs (row_at entry close (last_of xs) rest >>= λ row. entries_behind row (rows_at entry close less))

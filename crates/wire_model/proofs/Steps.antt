@@ -58,15 +58,6 @@ Moved-then a b c s t m n p q =
       bytes = let x : m ≤ length s = p.bytes in let y : n ≤ length t = q.bytes in omega (arith, length-append s t);
     }
 
--- one value more than bytes that the header takes at least
-pub Moved-counted : (a b c : Unread) (text : List ℕ) (n : ℕ) → suc b.budget ≡ a.budget → b.bytes ≡ a.bytes → Moved b c text n → n + 1 ≤ length text → Moved a c text (n + 1)
-Moved-counted a b c text n left same q more =
-    record {
-      whole = sym same ∙ q.whole;
-      count_is = let x : suc b.budget ≡ a.budget = left in let y : n + c.budget ≡ b.budget = q.count_is in omega arith;
-      bytes = more;
-    }
-
 pub Moved_of_found : {A : Type 0} {IsText : A → List ℕ → Type 0} (x : A) (before after : Unread) (f : IsInFront IsText x before after) → Moved before after f.text 0
 Moved_of_found x before after f = record { whole = f.whole; count_is = let y : after.budget ≡ before.budget = f.budget in omega arith; bytes = omega arith }
 

@@ -1,9 +1,9 @@
 -- The loops over the groups of a varint.
 use Rattle.std.proofs.Common.{◌≡◌, ℕ, suc, ◌+◌, ◌-◌, ◌*◌, ◌/◌, ◌%◌, ◌^◌, ◌<◌, ◌≤◌, Bool, cond, ltb, List, [], ◌∷◌, ◌++◌, length, get_or, take, drop, set, Result, Ok, Err, refl, sym, ap, ◌∙◌, arith, append_assoc}
 use Rattle.std.proofs.lemmas.Bool.{lt-ltb, le-ltb}
-use Rattle.std.proofs.lemmas.List.{drop_more, drop_all, take_more_set, append-nil, length-set}
+use Rattle.std.proofs.lemmas.List.{drop_more, drop_all, take_more_set, length-set}
 use Rattle.wire_num.specs.declared.fault.NumFault.{NumFault}
-use Rattle.wire_num.specs.declared.fault.NumFault.TheVariants.{Short, LongVarint}
+use Rattle.wire_num.specs.declared.fault.NumFault.TheVariants.{Short}
 use Rattle.wire_num.specs.Decoding.{decoded_as}
 use Rattle.wire_num.specs.Varint.{group_sum, groups_of, decode_groups}
 use Rattle.wire_num.proofs.Fronts.{decoded}
@@ -30,14 +30,6 @@ pub record Counted (bytes : List ℕ) (most number weight i : ℕ) : Type 0 wher
   pub within : i ≤ length bytes
   pub same : decoded_as plain_64 (decode_groups most bytes) ≡ decoded_as (low_64 number weight) (decode_groups (most - i) (drop i bytes))
 
-pub counted_first : (bytes : List ℕ) (most : ℕ) → Counted bytes most 0 1 0
-counted_first bytes most = record {
-  within = omega arith;
-  same =
-      same_meaning plain_64 (low_64 0 1) (λ groups. ap (λ (n : ℕ). n % 2 ^ 64) (omega arith)) (decode_groups most bytes)
-      ∙ ap (λ (n : ℕ). decoded_as (low_64 0 1) (decode_groups n bytes)) (let e : most ≡ most - 0 = omega arith in e);
-}
-
 -- the groups from a byte on
 at_byte : (bytes : List ℕ) (most i b : ℕ) → i < most → i < length bytes → get_or bytes i 0 ≡ b
     → decode_groups (most - i) (drop i bytes) ≡ after_first (ltb b 128) (most - i - 1) b (drop (i + 1) bytes)
@@ -51,10 +43,6 @@ counted_short bytes most number weight i counted more end =
     counted.same
     ∙ ap (λ (t : List ℕ). decoded_as (low_64 number weight) (decode_groups (most - i) t)) (drop_all i bytes (omega arith))
     ∙ ap (λ (n : ℕ). decoded_as (low_64 number weight) (decode_groups n [])) (let e : most - i ≡ suc (most - i - 1) = omega arith in e)
-
-pub counted_long : (bytes : List ℕ) (most number weight i : ℕ) → Counted bytes most number weight i → most ≤ i → decoded_as plain_64 (decode_groups most bytes) ≡ Err LongVarint
-counted_long bytes most number weight i counted end =
-    counted.same ∙ ap (λ (n : ℕ). decoded_as (low_64 number weight) (decode_groups n (drop i bytes))) (let e : most - i ≡ 0 = omega arith in e)
 
 -- a number to which the group of a byte was added
 abbrev pub with_group : ℕ → ℕ → ℕ → ℕ
@@ -98,9 +86,6 @@ pub record Put (number most : ℕ) (bytes : List ℕ) (rest i : ℕ) : Type 0 wh
   pub same : groups_of most number ≡ take i bytes ++ groups_of (most - i) rest
   pub room : length bytes ≡ 10
 
-pub put_first : (number most : ℕ) (bytes : List ℕ) → length bytes ≡ 10 → Put number most bytes number 0
-put_first number most bytes room = record { same = ap (λ (n : ℕ). groups_of n number) (let e : most ≡ most - 0 = omega arith in e); room = room }
-
 groups_at : (most i rest : ℕ) → i < most → groups_of (most - i) rest ≡ cond (ltb rest 128) (rest ∷ []) ((128 + rest % 128) ∷ groups_of (most - i - 1) (rest / 128))
 groups_at most i rest more = ap (λ (n : ℕ). groups_of n rest) (let e : most - i ≡ suc (most - i - 1) = omega arith in e)
 
@@ -123,10 +108,3 @@ put_more number most bytes rest i put more few large =
           ∙ ap (λ (n : ℕ). take (i + 1) (set bytes i (128 + rest % 128)) ++ groups_of n (rest / 128)) (let e : most - i - 1 ≡ most - (i + 1) = omega arith in e);
       room = length-set bytes i (128 + rest % 128) ∙ put.room;
     }
-
-pub put_all : (number most : ℕ) (bytes : List ℕ) (rest i : ℕ) → Put number most bytes rest i → i ≡ most → take most bytes ≡ groups_of most number
-put_all number most bytes rest i put end =
-    sym (put.same
-    ∙ ap (λ (n : ℕ). take i bytes ++ groups_of n rest) (let e : most - i ≡ 0 = omega arith in e)
-    ∙ append-nil (take i bytes)
-    ∙ ap (λ (n : ℕ). take n bytes) end)
