@@ -1,8 +1,7 @@
 -- How long the parts of a written message are.
-use Rattle.std.proofs.Common.{◌≡◌, ℕ, zero, suc, ℤ, ◌+◌, ◌/◌, ◌%◌, ◌≤◌, ◌==◌, Bool, true, false, if◌then◌else◌, List, [], ◌∷◌, length, nat_lt, refl, arith}
+use Rattle.std.proofs.Common.{ℕ, zero, suc, ◌+◌, ◌/◌, ◌%◌, ◌≤◌, ◌==◌, Bool, true, false, if◌then◌else◌, List, [], ◌∷◌, length, nat_lt, arith}
 use Rattle.std.specs.Int.{w32}
 use Rattle.std.specs.Fmt.{digits, digits_onto, digit_glyph, decimal}
-use Rattle.wire_num.specs.Fixed.{signed_bytes}
 use Rattle.wire_num.specs.Varint.{groups_of, varint_bytes}
 
 -- no more groups than this
@@ -17,10 +16,6 @@ groups_length (suc most) n = either (nat_lt n 128) (groups_length most (n / 128)
 -- a varint of 32 bits
 pub varint_length : (n : ℕ) → length (varint_bytes w32 n) ≤ 5
 varint_length n = groups_length 5 n
-
--- a number of 32 bits
-pub signed_length : (n : ℤ) → length (signed_bytes w32 n) ≡ 4
-signed_length n = refl
 
 -- no more digits than this, and what stands behind them
 digits_length : (k n : ℕ) (acc : List ℕ) → length (digits_onto k 10 false n acc) ≤ k + length acc

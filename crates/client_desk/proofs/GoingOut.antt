@@ -20,9 +20,6 @@ pub struct_written : (structs : List PlainStruct) (which : ℕ) (args : Tree) �
 struct_written structs which (of_struct sent) is = refl
 struct_written structs which _ is = absurd (false≢true is)
 
-pub struct_fits : (structs : List PlainStruct) (which : ℕ) (args : Tree) → may_be_written structs (kind_struct which) args ≡ true → tag_of args ≡ Struct
-struct_fits structs which args is = struct_written structs which args (and_parts (is_written_as structs (kind_struct which) args) (has_small_sizes args) is).0
-
 pub goes_out : (s : PlainSchema) (which : ℕ) (args : Tree) → may_go_out s which args ≡ true → GoesOut args
 unfolding may_go_out
 goes_out s which args is =

@@ -1,5 +1,5 @@
 -- A client hears what its host replies.
-use Rattle.std.proofs.Common.{◌≡◌, ◌⊎◌, inl, inr, ℕ, ℤ, ◌+◌, ◌<◌, ◌≤◌, Bool, true, false, if◌then◌else◌, List, [], ◌++◌, length, Option, Some, None, Result, Ok, Err, refl, sym, ap, subst, ◌∙◌, arith, append-nil, FitsSigned}
+use Rattle.std.proofs.Common.{◌≡◌, ◌⊎◌, inl, inr, ℕ, ℤ, ◌+◌, ◌<◌, ◌≤◌, Bool, true, false, if◌then◌else◌, List, [], ◌++◌, length, Option, Some, None, Ok, Err, refl, sym, ap, subst, ◌∙◌, arith, append-nil, FitsSigned}
 use Rattle.std.specs.Prelude.{All, IsTrue, nat_le}
 use Rattle.std.specs.Int.{w16, w32}
 use Rattle.std.specs.Ordering.{int_eq}
@@ -7,7 +7,6 @@ use Rattle.std.specs.Result.{IsOk}
 use Rattle.std.proofs.lemmas.Bool.{leb-true, leb-false, le-leb}
 use Rattle.std.proofs.lemmas.Bool.Decides.{Decides-int_eq}
 use Rattle.std.proofs.lemmas.Slice.Eq.{bytes_eq-Decides}
-use Rattle.streams.specs.declared.outcomes.EnvelopeFault.{EnvelopeFault}
 use Rattle.host_model.specs.Frames.{frame}
 use Rattle.envelope.specs.declared.head.Head.{Head}
 use Rattle.envelope.specs.declared.head.Protocol.{Protocol}
@@ -100,9 +99,6 @@ module _ (c : PlainClient) (bound : List ℕ) (most : ℕ) (method : List ℕ) (
 
 abbrev said_back : List ℕ → ℕ → ℤ → Said
 said_back method kind id = record { name = method; kind = kind; id = id }
-
-abbrev read_back_head : List ℕ → ℕ → ℤ → ℕ → Result Head EnvelopeFault
-read_back_head method kind id behind = Ok (record { name = method; kind = kind; id = id; behind = behind })
 
 reply_fits : (p : Protocol) (n : ℕ) → n ≤ 3 → n < type_limit p
 reply_fits Binary n few = omega arith

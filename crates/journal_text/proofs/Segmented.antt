@@ -62,11 +62,6 @@ chained_length (s ∷ full) last all =
     ap length (append_assoc s (chained full) last) ∙ length-append s (chained full ++ last) in
     both ∙ omega (arith, length_is, rest)
 
--- one segment more at the end
-pub all_with : {X : Type 0} (full : List (List X)) (s : List X) → AllFull full → length s ≡ 1024 → AllFull (full ++ s ∷ [])
-all_with [] s all is = (is, tt)
-all_with (t ∷ full) s all is = (all.0, all_with full s all.1 is)
-
 -- the entries of one segment more at the end
 pub chained_with : {X : Type 0} (full : List (List X)) (s : List X) → chained (full ++ s ∷ []) ≡ chained full ++ s
 chained_with [] s = append-nil s

@@ -35,8 +35,5 @@ journal_send K sink send = search (sendable, crosses, entry_send, appended_send,
 pub spool_journal_send : (K : RattleType) (sink : Ghosts K.Denot) → IsSend K → IsSend (SpoolJournal.the_row K sink)
 spool_journal_send K sink send = search (sendable, crosses, entry_send, appended_send, buffered_send) depth 20
 
-pub segment_journal_send : IsSend SegmentJournal.the_row
-segment_journal_send = search (sendable, crosses, entry_send) depth 20
-
 pub segment_journal_field_send : IsSend (SegmentJournal.the_field).row
 segment_journal_field_send = search (sendable, crosses, entry_send) depth 20

@@ -43,9 +43,6 @@ pub step_fails : {A B C : Type 0} (see : B → C) (fault : WireFault) (whole : R
     → whole ≡ go_on r k → FaultsOrNoMemory fault r → FaultsOrNoMemory fault (read_seen see whole)
 step_fails see fault whole r k is h = seen_fails see fault whole (fails_same fault _ _ (sym is) (fails_on fault r k h))
 
-pub whole_fails : {A B : Type 0} (see : A → B) (fault : WireFault) (r whole : Reading A) → r ≡ whole → FaultsOrNoMemory fault r → FaultsOrNoMemory fault (read_seen see whole)
-whole_fails see fault r whole is h = seen_fails see fault whole (fails_same fault r whole is h)
-
 pub is_too_deep : {A B : Type 0} (see : A → B) (fault : WireFault) (r : Reading A) → fault ≡ TooDeep → r ≡ Err TooDeep → FaultsOrNoMemory fault (read_seen see r)
 is_too_deep see fault r is e = subst (λ f. FaultsOrNoMemory f (read_seen see r)) (sym is) (ap (read_seen see) e)
 

@@ -1,11 +1,8 @@
 -- A pair more is bound.
-use Rattle.std.proofs.Common.{◌≡◌, ℕ, ◌+◌, ◌<◌, cond, List, [], ◌∷◌, ◌++◌, length, take, drop, get_or, Result, sym, ap, ap₂, ◌∙◌, subst, arith, append_assoc, append-nil, drop-drop, take-append-drop}
-use Rattle.std.specs.Prelude.{count_by}
+use Rattle.std.proofs.Common.{◌≡◌, ℕ, ◌+◌, ◌<◌, List, [], ◌∷◌, ◌++◌, length, take, drop, get_or, sym, ap, ◌∙◌, subst, arith, append_assoc, append-nil, take-append-drop}
 use Rattle.std.proofs.lemmas.List.{drop_more}
 use Rattle.std.proofs.lemmas.Grind.{common_steps}
-use Rattle.std.proofs.lemmas.List.Sums.{sum_by_push}
 use Rattle.service_binding.specs.Binding.{AreBound, AreBoundBehind, IsBound, IsRefused, NumberedName}
-use Rattle.call_rules.specs.declared.kind.Kind.{Kind}
 use Rattle.call_rules.specs.Handling.{ServiceState}
 use Rattle.service_binding.specs.Pairs.{NamedKind}
 use Rattle.schema.specs.PlainSchema.{PlainSchema}
@@ -13,10 +10,8 @@ use Rattle.service_binding.specs.declared.fault.BindFault.{BindFault}
 use Rattle.service_binding.specs.declared.fault.BindKind.{BindKind}
 use Rattle.service_binding.specs.declared.fault.PairFault.{PairFault}
 use Rattle.service_binding.specs.declared.fault.PairFault.TheVariants as faults
-use Rattle.service_binding.specs.declared.handlers.Handed.{Handed}
 use Rattle.service_binding.specs.FirstRefusal.{IsFirstRefusal, OnRefusal}
-use Rattle.service_binding.specs.Handlers.{asks_for, first_left, handler_for, same_kind, services_of_kind}
-use Rattle.service_binding.specs.Steps.{AreLeftBehind, IsHanded, IsBoundSoFar, OnPairFault, refusal_at, has_kind}
+use Rattle.service_binding.specs.Steps.{AreLeftBehind, IsBoundSoFar, OnPairFault, refusal_at}
 
 -- a pair is bound behind those that are
 pub bound_more : (s : PlainSchema) (services : List ServiceState) (front before : List NamedKind) (bindings : List NumberedName) (bound : List ServiceState) (pair : NamedKind) (binding : NumberedName) (service : ServiceState)
@@ -32,21 +27,6 @@ bound_more s services front [] [] (h ∷ bound) pair binding service are is = ab
 bound_more s services front [] (b ∷ bindings) bound pair binding service are is = absurd are
 bound_more s services front (p ∷ before) [] bound pair binding service are is = absurd are
 bound_more s services front (p ∷ before) (b ∷ bindings) [] pair binding service are is = absurd are
-
--- of each kind these are left
-pub left_more : (services : List ServiceState) (before : List NamedKind) (pair : NamedKind) (left new : List ServiceState) → AreLeftBehind services before left
-    → ((other : Kind) → services_of_kind other new ≡ drop (cond (same_kind other pair.1) 1 0) (services_of_kind other left))
-    → AreLeftBehind services (before ++ pair ∷ []) new
-left_more services before pair left new are others other =
-    let taken : ℕ = count_by (asks_for other) before in
-    let one : ℕ = cond (same_kind other pair.1) 1 0 in
-    let counted : count_by (asks_for other) (before ++ pair ∷ []) ≡ taken + one = sum_by_push (λ (p : NamedKind). cond (asks_for other p) 1 0) before pair in
-    others other ∙ ap (drop one) (are other) ∙ drop-drop one taken (services_of_kind other services) ∙ ap (λ n. drop n (services_of_kind other services)) (sym counted)
-
--- what a pair takes of those that are left is what it takes behind others
-pub handler_is : (services : List ServiceState) (before : List NamedKind) (pair : NamedKind) (left : List ServiceState) (handed : Handed) (r : Result ServiceState BindKind)
-    → IsHanded handed services → AreLeftBehind services before left → first_left (has_kind handed pair.1) (services_of_kind pair.1 left) ≡ r → handler_for services before pair ≡ r
-handler_is services before pair left handed r are_handed are e = ap₂ first_left (sym (are_handed pair.1)) (sym (are pair.1)) ∙ e
 
 -- the pair at a place is the first that is refused
 pub refused_at : (s : PlainSchema) (services : List ServiceState) (pairs : List NamedKind) (place : ℕ) (pair : NamedKind) (kind : BindKind) (bindings : List NumberedName) (bound : List ServiceState)

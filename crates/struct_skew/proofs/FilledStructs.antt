@@ -59,9 +59,6 @@ not_above x y low same = omega (arith, ints)
 not_below : (x y : ℤ) → x <ℤ y → x ≡ y → ⊥
 not_below x y low same = omega (arith, ints)
 
-not_both : (x y : ℤ) → x <ℤ y → y <ℤ x → ⊥
-not_both x y low high = omega (arith, ints)
-
 below_both : (x y z : ℤ) → x <ℤ y → y <ℤ z → x <ℤ z
 below_both x y z low high = omega (arith, ints)
 

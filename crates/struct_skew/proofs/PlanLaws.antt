@@ -28,10 +28,6 @@ pub AllAt-both : {A : Type 0} (P R Q : ℕ → A → Type 0) → ((q : ℕ) (x :
 AllAt-both P R Q f n [] one other = tt
 AllAt-both P R Q f n (x ∷ xs) one other = (f n x one.0 other.0, AllAt-both P R Q f (n + 1) xs one.1 other.1)
 
-pub AllAt-always : {A : Type 0} (P : ℕ → A → Type 0) → ((q : ℕ) (x : A) → P q x) → (n : ℕ) (xs : List A) → AllAt P n xs
-AllAt-always P f n [] = tt
-AllAt-always P f n (x ∷ xs) = (f n x, AllAt-always P f (n + 1) xs)
-
 -- a choice's part of what is sent at a place
 abbrev pub here : ℕ → Choice → Option (Option ℕ)
 here q c = if c.place == q then Some c.sent else None

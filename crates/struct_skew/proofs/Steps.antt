@@ -6,7 +6,7 @@ use Rattle.std.proofs.lemmas.List.{drop_more, at_drop_all, map-append}
 use Rattle.struct_skew.specs.declared.fault.SkewFault.{SkewFault}
 use Rattle.struct_skew.specs.declared.fault.SkewFault.TheVariants.{Missing, UnionFields, TooDeep, TooMany, NoMemory}
 use Rattle.struct_skew.specs.Answering.{SkewsOrNoMemory, ProjectsOrNoMemory, PutsSome}
-use Rattle.struct_skew.specs.Results.{with_value, with_first, with_some}
+use Rattle.struct_skew.specs.Results.{with_first, with_some}
 
 -- the same fault of another result
 pub skews_on : {X Y : Type 0} (e : SkewFault) (one : Result X SkewFault) (other : Result Y SkewFault) → (one ≡ Err e → other ≡ Err e) → SkewsOrNoMemory e one → SkewsOrNoMemory e other
@@ -18,12 +18,6 @@ skews_on NoMemory one other f held = tt
 
 pub no_memory_skews : {Y : Type 0} (e : SkewFault) (other : Result Y SkewFault) → e ≡ NoMemory → SkewsOrNoMemory e other
 no_memory_skews e other is = subst (λ f. SkewsOrNoMemory f other) (sym is) tt
-
--- a result that follows from another
-pub means_on : {X Y A B : Type 0} (view : X → A) (other_view : Y → B) (f : X → Y) (g : A → B) (r : Result X SkewFault) (meant : Result A SkewFault)
-    → ((x : X) → g (view x) ≡ other_view (f x)) → ProjectsOrNoMemory view r meant → ProjectsOrNoMemory other_view (with_value f r) (with_value g meant)
-means_on view other_view f g (Ok x) meant same held = ap (with_value g) held ∙ ap Ok (same x)
-means_on view other_view f g (Err e) meant same held = skews_on e meant (with_value g meant) (ap (with_value g)) held
 
 -- values that were gathered, and those of what is left
 abbrev pub behind : {B : Type 0} → List B → Result (List B) SkewFault → Result (List B) SkewFault

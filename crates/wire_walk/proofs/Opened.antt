@@ -46,31 +46,6 @@ unfolding parts
 bytes_is wire levels tag rest behind one is =
     counted wire levels tag rest behind one ∙ ap (λ t. parts wire levels (read_below wire levels) t behind) is
 
--- no level is left
-pub struct_too_deep : (wire : Wire) (levels : ℕ) (tag : Tag) (rest behind : Unread) → count_value rest ≡ Ok (tt, behind) → tag ≡ tags.Struct → levels ≡ 0
-    → value wire levels tag rest ≡ Err TooDeep
-unfolding parts
-struct_too_deep wire levels tag rest behind one is none =
-    counted wire levels tag rest behind one ∙ (λ i. parts wire (none i) (read_below wire (none i)) (is i) behind)
-
-pub map_too_deep : (wire : Wire) (levels : ℕ) (tag : Tag) (rest behind : Unread) → count_value rest ≡ Ok (tt, behind) → tag ≡ tags.Map → levels ≡ 0
-    → value wire levels tag rest ≡ Err TooDeep
-unfolding parts
-map_too_deep wire levels tag rest behind one is none =
-    counted wire levels tag rest behind one ∙ (λ i. parts wire (none i) (read_below wire (none i)) (is i) behind)
-
-pub set_too_deep : (wire : Wire) (levels : ℕ) (tag : Tag) (rest behind : Unread) → count_value rest ≡ Ok (tt, behind) → tag ≡ tags.Set → levels ≡ 0
-    → value wire levels tag rest ≡ Err TooDeep
-unfolding parts
-set_too_deep wire levels tag rest behind one is none =
-    counted wire levels tag rest behind one ∙ (λ i. parts wire (none i) (read_below wire (none i)) (is i) behind)
-
-pub list_too_deep : (wire : Wire) (levels : ℕ) (tag : Tag) (rest behind : Unread) → count_value rest ≡ Ok (tt, behind) → tag ≡ tags.List → levels ≡ 0
-    → value wire levels tag rest ≡ Err TooDeep
-unfolding parts
-list_too_deep wire levels tag rest behind one is none =
-    counted wire levels tag rest behind one ∙ (λ i. parts wire (none i) (read_below wire (none i)) (is i) behind)
-
 -- a struct
 pub struct_is : (wire : Wire) (levels n : ℕ) (tag : Tag) (rest behind : Unread) → count_value rest ≡ Ok (tt, behind) → tag ≡ tags.Struct → levels ≡ suc n
     → value wire levels tag rest

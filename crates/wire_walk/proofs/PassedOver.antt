@@ -67,11 +67,6 @@ pub passes : {A B : Type 0} (r : Reading A) (k : A → Unread → Reading B) (be
 passes (Ok x) k behind m e each = let same : x.1 ≡ behind = cc in ap (λ (s : Unread). passed_over (k x.0 s)) same ∙ each x.0
 passes (Err fault) k behind m e each = absurd cc
 
--- the part was read, and nothing follows
-pub ends_at : {A B : Type 0} (whole : Reading B) (r : Reading A) (f : A → B) (x : A) (rest : Unread)
-    → whole ≡ go_on r (λ y. give (f y)) → r ≡ Ok (x, rest) → passed_over whole ≡ Ok rest
-ends_at whole r f x rest is e = ap passed_over (is ∙ on_ok r (λ y. give (f y)) x rest e)
-
 -- the same answer, where what is left is the same
 pub answers_same : (result : Result Unread WireFault) (r s : Result Unread WireFault) → r ≡ s → AnswersExactly (λ x. x) result r → AnswersExactly (λ x. x) result s
 answers_same result r s e h = subst (λ x. AnswersExactly (λ y. y) result x) e h
