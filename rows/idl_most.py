@@ -55,6 +55,18 @@ def levels_of_texts(Row):
         yield made(Row, "64 levels of " + opening, front + opening * 64 + inner + closing * 64 + back, later)
         front, inner = front.replace("^", ""), inner.replace("^", "")
         yield made(Row, "65 levels of " + opening, front + opening * 64 + "^" + opening + inner + closing * 65 + back, "TooDeep")
+    for text, kind in MIXED:
+        yield made(Row, "65 levels: " + text[:20], text, kind)
+
+
+# Texts of 65 levels whose level at fault is of another kind than those around it, or isn't whole, or stands behind another fault.
+MIXED = [
+    ("typedef " + "list<" * 64 + "^map>", "TooDeep"),
+    ("typedef " + "list<" * 62 + "map<i32, list<^set<x>>>" + ">" * 62 + " M", "TooDeep"),
+    ("const T A = " + "[" * 62 + "[{1: ^[]}]" + "]" * 62, "TooDeep"),
+    ("const i32 A = " + "[" * 63 + "{^[", "TooDeep"),
+    ("^x typedef " + "list<" * 64 + "set<i32>" + ">" * 64 + " T", "Found"),
+]
 
 
 def levels_of_values(Row):

@@ -7,7 +7,6 @@
 //! let ground = program_ground(alloc, &constants, &definitions, &places, values.as_slice(), &schema)?;
 //! let mut evaluator = program_evaluator(alloc, &ground, &types)?;
 //! let made = evaluate_all(alloc, &mut evaluator, values.as_slice())?;
-//! let value = evaluate(alloc, &sources, &partial, 0, &kind, &tree)?;     // one value alone: the tables are made for this call
 //! ```
 //!
 //! [`ProgramGround`] is what `idl_const` asks of a program, over its names, its given values and its schema without defaults;
@@ -21,7 +20,6 @@
 
 mod chain_ends;
 mod enum_tables;
-mod evaluation;
 mod evaluator;
 mod given_fields;
 mod ground;
@@ -29,7 +27,6 @@ mod places;
 mod struct_tables;
 mod tables;
 
-pub use evaluation::evaluate;
 pub use evaluator::{ProgramEvaluator, program_evaluator};
 pub use ground::{ProgramGround, program_ground};
 pub use places::{ValuePlaces, value_places};

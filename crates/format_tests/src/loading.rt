@@ -1,9 +1,12 @@
 //! What only files in memory show of loading: reads that fail by their numbers, and files at the root. The rest stands in rows/idl_loading.rows.
 
-use crate::loaded::{Held, in_memory};
 use idl_include::{LoadFault, Sources, load};
+use streams::MemFiles;
 use std::alloc::{AllocError, Global};
 use std::test::Fail;
+
+/// A file's name and its text.
+type Held = (&'static str, &'static str);
 
 /// Files, the numbers of the reads that fail, and what loading comes to: the base names of the files in order, or the fault behind the name of its file.
 const ROWS: [(&[Held], &[u64], &str); 8] = [
@@ -79,6 +82,25 @@ const ROWS: [(&[Held], &[u64], &str); 8] = [
         "a b c.c d ",
     ),
 ];
+
+/// A file in memory.
+fn held_file(alloc: Global, name: &str, text: &str) -> Result<(String, Vec<u8>), AllocError> {
+    let text = text.as_bytes().to_vec(alloc)?;
+    Ok((String::from_str(alloc, name)?, text))
+}
+
+/// These files in memory, of which the reads of these numbers fail.
+fn in_memory(
+    alloc: Global,
+    held: &[(&str, &str)],
+    fails: &[u64],
+) -> Result<MemFiles, AllocError> {
+    let mut files = Vec::new(alloc);
+    for (name, text) in held {
+        files.push(held_file(alloc, name, text)?)?;
+    }
+    Ok(MemFiles::new(files, fails.to_vec(alloc)?))
+}
 
 /// The base names of the files in order.
 fn bases(alloc: Global, sources: &Sources) -> Result<Vec<u8>, AllocError> {

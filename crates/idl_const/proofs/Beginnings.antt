@@ -6,11 +6,10 @@ use Rattle.std.proofs.Math.ListN.{length-set}
 use Rattle.std.proofs.lemmas.Option.{none-some, same_Some}
 use Rattle.idl_token.specs.declared.Place.{Place}
 use Rattle.schema.specs.PlainKind.{PlainKind}
-use Rattle.idl_include.specs.ConstExpr.{ConstExpr}
 use Rattle.idl_include.specs.Numbering.{Filed}
 use Rattle.idl_include.specs.Spots.{GivenValue, values_of}
 use Rattle.check_model.specs.Worths.{most_const_levels, seen_at}
-use Rattle.check_model.specs.Evaluation.{Setting, worth_by, named_worth, is_free, all_free, evaluated, given_worth}
+use Rattle.check_model.specs.Evaluation.{Setting, worth_by, named_worth, is_free, all_free, given_worth}
 use Rattle.idl_const.specs.declared.chains.ChainEnd.{ChainEnd}
 use Rattle.idl_const.specs.declared.chains.ChainEnd.TheVariants as ends
 use Rattle.idl_const.specs.ChainEnds.{end_within, name_place}
@@ -52,16 +51,6 @@ one_agrees s which l =
       clear = still_clear s (all_free s.program) marks which which 1 (shut_itself (all_free s.program) which) (l.within 0) (λ k other e h unshut. all_clear s k other e h);
       few = omega (arith, count_le marks, length-set (all_free s.program) which false, marks_length (values_of s.program));
     }
-
--- a value that stands anywhere
-pub evaluated_is : (s : Setting) (file : ℕ) (kind : PlainKind) (tree : ConstExpr) (free : List Bool) → free ≡ all_free s.program
-    → worth_by s (worth_where s free) file kind 64 0 tree ≡ evaluated s file kind tree
-unfolding evaluated worth_where entered_where most_const_levels
-evaluated_is s file kind tree free is =
-    let all = all_free s.program in
-    ap (λ (f : List Bool). worth_by s (worth_where s f) file kind 64 0 tree) is
-    ∙ sym (worth_alike s (named_worth s (length (values_of s.program)) all) (worth_by_end s (entered_worth s (free_count all) all))
-    (by_ends s (free_count all) (length (values_of s.program)) all all (all_agree s) (omega (arith, count_all (values_of s.program))) (omega arith)) file kind 64 0 tree)
 
 tree_is : (s : Setting) (which : ℕ) (v : Filed GivenValue) (t : FiledTree) → tree_numbered s.program which ≡ Some t → slice_get (values_of s.program) which ≡ Some v → t ≡ tree_given v
 unfolding tree_numbered

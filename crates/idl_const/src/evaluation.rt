@@ -1,4 +1,4 @@
-//! Constant values, each evaluated from its beginning: one that stands anywhere, and those that a program gives, one after another.
+//! Constant values that a program gives, each evaluated from its beginning, one after another.
 
 ghost use Rattle.std.specs.Prelude.{◌≡◌, ℕ, true, false, Some, slice_get, slice_set, is_ok, IfOk, OnOk};
 ghost use Rattle.thrift_value.specs.Tree.{Tree};
@@ -8,7 +8,7 @@ ghost use Rattle.idl_include.specs.DeclaredIn.{value_in};
 ghost use Rattle.idl_include.specs.Numbering.{Filed};
 ghost use Rattle.idl_include.specs.Spots.{GivenValue, values_of};
 ghost use Rattle.check_model.specs.Worths.{Worth};
-ghost use Rattle.check_model.specs.Evaluation.{worth_by, evaluated, given_worth, all_free};
+ghost use Rattle.check_model.specs.Evaluation.{worth_by, given_worth, all_free};
 ghost use Rattle.idl_const.specs.Flaws.{AnswersWorth, IsEvaluated};
 ghost use Rattle.idl_const.specs.Idle.{NoneEntered};
 ghost use Rattle.idl_const.specs.Marks.{worth_where};
@@ -60,30 +60,6 @@ fn told(made: Result<Value, ConstStop>) -> Result<Value, (Place, ConstFault)>
         Ok(value) => Ok(value),
         Err(stop) => Err((stop.at, stop.fault)),
     }
-}
-
-/// A value that stands in the file of some number, against a type, where none is under evaluation.
-pub fn evaluate_in<G: Ground>(
-    ground: &G,
-    alloc: Global,
-    file: u32,
-    kind: &TypeDesc,
-    tree: &ConstTree,
-) -> Result<Value, (Place, ConstFault)>
-    requires { G.right ground.now }
-    ensures { IsEvaluated (evaluated (G.setting ground.now) file (kind_of kind.now) (value_in tree.now)) result }
-{
-    let free = match all_free(ground, alloc) {
-        Ok(free) => free,
-        Err(_) => return Err((Place { line: 0, column: 0 }, ConstFault::NoMemory)),
-    };
-    let mut work = Progress {
-        free,
-        values: 0,
-        steps: MOST_STEPS,
-    };
-    let made = value(ground, alloc, &mut work, file, kind, MOST_LEVELS, tree);
-    told(made)
 }
 
 /// The given value of some number, which is no name, against a type, under evaluation itself.

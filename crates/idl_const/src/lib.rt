@@ -1,7 +1,6 @@
 //! Constants evaluated: what a constant value of an IDL is worth against a type, or its first fault and its place.
 //!
 //! ```
-//! let value = evaluate_in(&ground, alloc, file, &kind, &tree)?;      // [1, OTHER] against list<i8>: list<i8>[1b,2b]
 //! let mut work = no_progress(&ground, alloc)?;
 //! let first = evaluate_given(&ground, alloc, &mut work, 0, &kind)?;  // the first value of the program, under evaluation itself
 //! ```
@@ -13,7 +12,7 @@
 //! `doubles`), members and pairs in order (`rows`, `tidy`), containers by their types (`containers`), ends of chains
 //! and marks of what is under evaluation (`chains`, `marks`), texts, which are work by their length (`texts`), and the walk (`walk`),
 //! which recurses once a level, at most 64 levels deep. More than 16,000,000 values and names, each 64 bytes of a text counted as one
-//! more, in one evaluation alone or in those of a program's values together, are answered as want of memory.
+//! more, in the evaluations of a program's values together, are answered as want of memory.
 //! `field_names` finds a struct's fields by name, and `field_rows` makes the row of a literal's fields, for who implements `Ground`; `laws` says that what is evaluated may be written as
 //! its type.
 //!
@@ -40,7 +39,7 @@ mod tidy;
 mod walk;
 
 pub use chains::ChainEnd;
-pub use evaluation::{evaluate_given, evaluate_in, no_progress};
+pub use evaluation::{evaluate_given, no_progress};
 pub use faults::ConstFault;
 pub use field_names::{field_of_name, field_places};
 pub use field_rows::{OwedField, field_row};

@@ -25,6 +25,7 @@ ghost use Rattle.idl_parser.specs.Symbols.{lexemes};
 ghost use Rattle.idl_parser.specs.Trees.{document_node};
 
 use crate::reader::{Stop, SymbolReader};
+use crate::symbol::symbols;
 use idl_token::{
     LONGEST_IDL_TEXT, Place, Token, an_integer_has_a_place_in_64_bits, each_token_is_of_its_kind,
     place_at, tokens_stand_in_order,
@@ -49,7 +50,6 @@ pub use laws::{
     a_reading_finds_the_document_or_the_first_fault, one_more_level_changes_no_document,
     only_what_is_left_out_is_refused, the_document_is_determined, the_first_fault_is_determined,
 };
-pub use symbol::{Symbol, symbols};
 pub use tree::{
     Base, Const, ConstTree, Definition, Document, Double, Enum, EnumValue, Field, Function,
     Include, Int, Literal, Name, Need, Service, Struct, StructKind, TypeTree, Typedef,

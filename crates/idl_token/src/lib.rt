@@ -19,8 +19,7 @@
 //!
 //! The laws say that a text has one list of tokens or one first fault, and which tokens a text has that
 //! was put together of tokens and white space. `uuid_value` is the number of the uuid that a literal writes, for those who evaluate
-//! constants. What is public besides the above, kinds of bytes, words and
-//! numbers and what stands in front of a text, is for the plain lexer of `idl_plain`.
+//! constants, as are signs, exponents and bytes of numbers.
 #![tactic(auto)]
 
 ghost use Rattle.std.specs.Prelude.{◌≡◌, ◌≢◌, ◌≤◌, ◌↔◌, ◌⊎◌, ℕ, false, FitsSigned, List, length, IfOk, IfErr};
@@ -31,7 +30,7 @@ ghost use Rattle.idl_token.specs.Numbers.{is_big_int, int_of};
 ghost use Rattle.idl_token.specs.Wholes.{sound, whole_of};
 ghost use Rattle.idl_token.specs.Tokens.{AreTokensOf, IsFirstLexFault, HasTokens, HasFirstLexFault, IsOfItsKind, StandBetween};
 
-use crate::pieces::next_piece;
+use crate::pieces::{Piece, next_piece};
 use std::alloc::{AllocFailed, Global};
 use std::fmt;
 use thiserror::Error;
@@ -48,19 +47,17 @@ mod terminal;
 mod uuids;
 mod words;
 
-pub use blanks::blank_in;
-pub use classes::{byte_at, is_escape, is_exponent_mark, is_quote, is_word_start};
+pub use classes::{byte_at, is_exponent_mark};
 pub use laws::{
     a_sign_spells_itself, a_text_has_the_tokens_that_it_spells, a_token_spells_itself,
     joined_texts_spell_the_tokens_of_both, white_space_spells_nothing,
 };
 pub use limits::LONGEST_IDL_TEXT;
-pub use numbers::{int_value, is_big_double, is_big_int, is_hexadecimal, sign_in};
-pub use pieces::{Piece, is_sign, kind_of_sign, opening_fault};
+pub use numbers::{int_value, is_big_int, sign_in};
 pub use places::place_at;
 pub use terminal::{Terminal, same};
 pub use uuids::uuid_value;
-pub use words::{keyword_of, keyword_text, kind_of_word};
+pub use words::{keyword_of, keyword_text};
 
 /// What a token is.
 #[derive(Clone, Copy, PartialEq, Eq)]

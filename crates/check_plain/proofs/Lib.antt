@@ -1,3 +1,0 @@
-pub mod GivenShown
-pub mod Placed
-pub mod Typed

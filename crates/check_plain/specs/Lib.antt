@@ -1,2 +1,0 @@
-pub mod OfKind
-pub mod Given

@@ -1,4 +1,0 @@
-use Rattle.idl_plain.proofs.documents.include.Goals as goal
-
-pub returns : goal.returns
-returns c = c.chain.ensures _ _ c.one-include.ensures c.one.ensures

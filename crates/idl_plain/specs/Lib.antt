@@ -1,4 +1,0 @@
-pub mod PlainPhrases
-pub mod PlainEnds
-pub mod PlainVerdicts
-pub mod Plain
