@@ -6,7 +6,7 @@ use call_rules::Handler;
 use house_handlers::{Mirror, Store};
 use net_links::NetBinder;
 use outside::EmptyGate;
-use std::alloc::AllocError;
+use std::alloc::{AllocError, Global};
 use std::fs::{self, File};
 use std::io::ErrorKind;
 use std::net::Net;
@@ -58,11 +58,21 @@ fn run<R: Threads + Wait + Net + Sync>(
     handle: &R,
     words: &[String],
 ) -> Result<Status, AllocError> {
-    let calculator: Box<dyn Handler> = Box::new(rt.alloc(), Calculator::new(rt.alloc()))?;
-    let store: Box<dyn Handler> = Box::new(rt.alloc(), Store::new(rt.alloc()))?;
-    let mirror: Box<dyn Handler> = Box::new(rt.alloc(), Mirror::new())?;
-    let handlers = vec![in rt.alloc(); calculator, store, mirror]?;
-    Ok(run_with(rt, handle, words, handlers))
+    Ok(run_with(rt, handle, words, handlers(rt.alloc())?))
+}
+
+/// The handlers that there are.
+fn handlers(alloc: Global) -> Result<Vec<Box<dyn Handler>>, AllocError> {
+    let mut handlers: Vec<Box<dyn Handler>> = Vec::new(alloc);
+    add(&mut handlers, Box::new(alloc, Calculator::new(alloc))?)?;
+    add(&mut handlers, Box::new(alloc, Store::new(alloc))?)?;
+    add(&mut handlers, Box::new(alloc, Mirror::new())?)?;
+    Ok(handlers)
+}
+
+/// Adds a handler to these.
+fn add(handlers: &mut Vec<Box<dyn Handler>>, handler: Box<dyn Handler>) -> Result<(), AllocError> {
+    handlers.push(handler)
 }
 
 /// Runs the command of these words with these handlers, on the system's files, the standard streams and the ports of the loopback address.
