@@ -1,11 +1,11 @@
 //! A table of small examples, whose expected values are worked out by hand.
 
 use host_model::Key;
-use host_model::plain::{
+use outside::{Bytes, EnvelopeFault, Mark};
+use plain_machine::{
     Decided, PlainDesk, PlainEntry, PlainServices, after, called, entries_of, input, is_legal,
     marks_of, output, sent, split,
 };
-use outside::{Bytes, EnvelopeFault, Mark};
 use std::alloc::{AllocError, Global};
 use std::process::Abort;
 use std::test::Fail;

@@ -25,6 +25,4 @@ pub mod Fitting
 pub mod Computing
 pub mod Showing
 pub mod Weaving
-pub mod Seeing
-pub mod Picking
 pub mod WrongSteps

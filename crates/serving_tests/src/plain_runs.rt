@@ -3,9 +3,11 @@
 ghost use Rattle.std.specs.Prelude.{◌≡◌, ◌<◌, ◌^◌};
 
 use host_model::EndCause;
-use host_model::plain::{Decided, PlainDesk, PlainServices};
-use machine_model::plain::{PlainApplyResult, PlainCell, PlainConnEvent, PlainEvent, run, start};
 use outside::Bytes;
+use plain_machine::{
+    Decided, PlainApplyResult, PlainCell, PlainConnEvent, PlainDesk, PlainEvent, PlainServices,
+    run, start,
+};
 use std::alloc::{AllocError, Global};
 
 // A desk with one reply.
