@@ -90,11 +90,7 @@ fn held_file(alloc: Global, name: &str, text: &str) -> Result<(String, Vec<u8>),
 }
 
 /// These files in memory, of which the reads of these numbers fail.
-fn in_memory(
-    alloc: Global,
-    held: &[(&str, &str)],
-    fails: &[u64],
-) -> Result<MemFiles, AllocError> {
+fn in_memory(alloc: Global, held: &[(&str, &str)], fails: &[u64]) -> Result<MemFiles, AllocError> {
     let mut files = Vec::new(alloc);
     for (name, text) in held {
         files.push(held_file(alloc, name, text)?)?;

@@ -1,7 +1,8 @@
 //! A table of small examples, whose expected values are worked out by hand.
 
 use host_model::Key;
-use host_model::plain::{
+use streams::{Bytes, EnvelopeFault, Mark};
+use plain_machine::{
     Decided, PlainDesk, PlainEntry, PlainServices, after, called, entries_of, input, is_legal,
     marks_of, output, sent, split,
 };

@@ -11,5 +11,3 @@ pub mod Runs
 pub mod WrongRuns
 pub mod RightRuns
 pub mod Splitting
-pub mod Fronting
-pub mod Plainly

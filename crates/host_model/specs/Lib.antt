@@ -8,4 +8,3 @@ pub mod Headline
 pub mod World
 pub mod Report
 pub mod TinyDesk
-pub mod Plain

@@ -25,8 +25,6 @@ pub mod Fitting
 pub mod Computing
 pub mod Showing
 pub mod Weaving
-pub mod Seeing
-pub mod Picking
 pub mod WrongSteps
 pub mod Troubles
 pub mod OwnOrder

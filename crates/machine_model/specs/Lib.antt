@@ -16,7 +16,5 @@ pub mod Resting
 pub mod Places
 pub mod Merge
 pub mod Plain
-pub mod Changed
-pub mod Seen
 pub mod Tiny
 pub mod TinyThreads

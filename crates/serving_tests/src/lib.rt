@@ -1,5 +1,5 @@
 //! Tests of calls and of what waits, where something fails or the program doesn't show it: a recorded connection (`recorded_runs`), and runs of two (`cell_core`)
-//! beside the plain machine (`machine_model`); texts of values (`value_text`), entries' lines, and journals (`journal_text`); scripts, printed (`script_text`,
+//! beside the plain machine (`plain_machine`); texts of values (`value_text`), entries' lines, and journals (`journal_text`); scripts, printed (`script_text`,
 //! `workload`); the booth (`seat_booth`); serving (`host_loop`) with journals and links that fail, a client that doesn't pause, and one over loopback; a port that is
 //! asked (`port_calls`); links and pipes over sockets (`net_links`). What is decided and answered, and what scripts of several connections come to, the program
 //! itself shows in rows/; what meets at a gate is tested through the command, in `host_tests`.

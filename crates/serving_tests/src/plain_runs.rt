@@ -3,10 +3,12 @@
 ghost use Rattle.std.specs.Prelude.{◌≡◌, ◌<◌, ◌^◌};
 
 use host_model::EndCause;
-use host_model::plain::{Decided, PlainDesk, PlainServices};
-use machine_model::plain::{PlainApplyResult, PlainCell, PlainConnEvent, PlainEvent, run, start};
-use std::alloc::{AllocError, Global};
 use streams::Bytes;
+use plain_machine::{
+    Decided, PlainApplyResult, PlainCell, PlainConnEvent, PlainDesk, PlainEvent, PlainServices,
+    run, start,
+};
+use std::alloc::{AllocError, Global};
 
 // A desk with one reply.
 #[derive(Drop)]

@@ -1,5 +1,0 @@
-use Rattle.host_model.proofs.Plainly.{Going}
-use Rattle.host_model.proofs.plain.journals.goes_on.Given as goal
-
-abbrev pub invariant-loop-entry : goal.invariant-loop-entry
-invariant-loop-entry g l = Going (g.S.PlainServices.rules l.services) l.fn.memories l.journal l.entry-index l.memories

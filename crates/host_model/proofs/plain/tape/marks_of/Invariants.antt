@@ -1,7 +1,0 @@
-use Rattle.std.proofs.Common.{◌==◌}
-use Rattle.host_model.specs.Marks.{connection_of}
-use Rattle.host_model.proofs.Fronting.{Kept}
-use Rattle.host_model.proofs.plain.tape.marks_of.Given as goal
-
-abbrev pub invariant-loop-mark : goal.invariant-loop-mark
-invariant-loop-mark l = Kept (λ mark. connection_of mark == l.c) l.tape l.mark-index l.own.items

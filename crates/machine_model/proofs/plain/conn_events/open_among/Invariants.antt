@@ -1,5 +1,0 @@
-use Rattle.machine_model.proofs.Seeing.{Counting}
-use Rattle.machine_model.proofs.plain.conn_events.open_among.Given as goal
-
-abbrev pub invariant-loop-conn : goal.invariant-loop-conn
-invariant-loop-conn l = Counting l.conns l.conn-index l.count

@@ -1,6 +1,0 @@
-use Rattle.machine_model.specs.Seen.{cell_of}
-use Rattle.machine_model.proofs.Picking.{picked}
-use Rattle.machine_model.proofs.plain.runs.step.Goals as goal
-
-pub returns : goal.returns
-returns g c = picked cell_of c.goes-can.new.cell c.goes-can.result c.where_it_can.result _ c.goes-can.ensures c.where_it_can.ensures

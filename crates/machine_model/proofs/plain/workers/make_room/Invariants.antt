@@ -1,9 +1,0 @@
-use Rattle.std.proofs.Common.{◌-◌, ◌+◌, length}
-use Rattle.machine_model.proofs.Seeing.{Room}
-use Rattle.machine_model.proofs.plain.workers.make_room.Given as goal
-
-abbrev pub invariant-room : goal.invariant-room
-invariant-room g l = Room l.fn.workers.items l.workers.items
-
-abbrev pub decreases-room : goal.decreases-room
-decreases-room g l = l.w + 1 - length l.workers.items

@@ -1,0 +1,5 @@
+pub mod Splitting
+pub mod Fronting
+pub mod Plainly
+pub mod Seeing
+pub mod Picking

@@ -1,0 +1,3 @@
+pub mod SeenDesk
+pub mod Seen
+pub mod Changed
