@@ -18,4 +18,3 @@ mod OwnTurns
 mod Stopping
 mod Beginning
 mod LeftOver
-mod HallOpened
