@@ -6,11 +6,10 @@ use Rattle.host_model.specs.DeskRules as desk_rule
 use Rattle.host_model.specs.DeskRules.{DeskDecision, Invoke}
 use Rattle.call_rules.specs.PlainCalls.{PlainCall, PlainAnswer}
 use Rattle.call_rules.specs.Desks.{DeskMeaning, desk_rules, IsDesk}
-use Rattle.call_rules.specs.Entries.{CallEntry}
 use Rattle.call_rules.specs.Handling.{handler_rules}
-use Rattle.machine_model.specs.HallRule.{take_job, apply, put, HallAnswer, done, HallGives}
+use Rattle.machine_model.specs.HallRule.{take_job, apply, put, HallAnswer, done}
 use Rattle.machine_model.specs.Worker.{holds, took, tried, SettlesAs}
-use Rattle.machine_model.specs.SeenHall.{MayHave, filled, SeenGives}
+use Rattle.machine_model.specs.SeenHall.{SeenGives}
 use Rattle.hall_core.specs.Meant.{ServedHall}
 use Rattle.cell_core.specs.declared.worker.Holding.{Holding}
 use Rattle.cell_core.specs.declared.worker.Holding.TheVariants.{Idle}
@@ -21,18 +20,6 @@ use Rattle.cell_core.specs.TurnMoves.{MayTurn}
 use Rattle.cell_core.specs.Turns.{stepped_by, IsWorkerTurn}
 use Rattle.cell_core.proofs.Permitting.{held_short}
 use Rattle.cell_core.proofs.Replying.{settled_some}
-
--- a Put is answered that it is done
-pub put_done : (old new : ServedHall) (key : Key) (settled : Settled) (answer : HallAnswer PlainAnswer) → SeenGives handler_rules old (put key settled) answer new
-    → SeenGives handler_rules old (put key settled) done new
-put_done old new key settled answer g entries may =
-    let t : (later : List CallEntry) × MayHave new.told later × HallGives handler_rules (filled old entries) (put key settled) answer (filled new later) = g entries may in
-    (t.0, t.1, go answer t.0 t.2)
-  where
-    go : (answer : HallAnswer PlainAnswer) (later : List CallEntry) → HallGives handler_rules (filled old entries) (put key settled) answer (filled new later)
-        → HallGives handler_rules (filled old entries) (put key settled) done (filled new later)
-    go done later h = h
-    go _ later h = absurd h
 
 -- a step that takes a job, where there is one
 pub take_turns : (desk : DeskMeaning) (old new : ServedHall) (next : Holding) (stepped : Stepped) (answer : HallAnswer PlainAnswer) → SeenGives handler_rules old take_job answer new

@@ -28,15 +28,10 @@ use Rattle.cell_core.specs.Machines.{AreUnderWay, SomeMachine, IsMachine, Machin
 use Rattle.cell_core.specs.MachineSteps.{HasNoTurn, IsConnStep}
 use Rattle.cell_core.proofs.Lessening.{conn_lessens, stays_heavy}
 use Rattle.cell_core.proofs.Gathering.{ConnReaches, played_so}
-use Rattle.call_rules.specs.Desks.{longest_payload}
 
 -- a machine with this longest payload is one
 pub some_machine : (max : ℕ) (m : Parts) → IsMachine max m → SomeMachine m
 some_machine max m now = (now.0, now.2)
-
--- payloads aren't too long for it
-pub small_frames : (max : ℕ) (m : Parts) → IsMachine max m → max ≤ longest_payload
-small_frames max m now = subst (λ n. n ≤ longest_payload) now.1 now.2.max
 
 -- there is a feed for each connection that was opened
 pub fed_within : (m : Parts) (c : ℕ) (stage : CellStage) → SomeMachine m → slice_get m.part.stages.items c ≡ Some stage → c < length m.part.feeds.items

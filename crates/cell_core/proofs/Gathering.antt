@@ -15,7 +15,7 @@ use Rattle.cell_loop.specs.Replies.{IsReplySome}
 use Rattle.cell_loop.specs.declared.loop_part.CellStage.TheVariants.{Whole, Asked}
 use Rattle.cell_loop.specs.declared.loop_part.LoopPart.{LoopPart}
 use Rattle.cell_loop.specs.LoopTied.{IsLoopTied, HasRoomToClose}
-use Rattle.cell_loop.specs.LoopMoves.{IsLoopUnderWay, HandsOut, TakesOutcome}
+use Rattle.cell_loop.specs.LoopMoves.{HandsOut, TakesOutcome}
 use Rattle.conn_refinement.proofs.Tables.{place_of}
 use Rattle.cell_core.specs.declared.worker.Holding.{Holding}
 use Rattle.cell_core.specs.HallTied.{IsHallTied, AreWorkersTied}
@@ -35,10 +35,6 @@ ConnReaches = (s : CellSetting) (x : ℕ) (one other : ServedPlay) → IsReached
 -- so does a collect
 abbrev pub OutcomeReaches : Type 0
 OutcomeReaches = (s : CellSetting) (one other : ServedPlay) → IsReached s one → ComesTo (one_of_outcome s) one other → IsReachedFrom s one other
-
--- the loop's part of a machine is between two moves
-pub loop_under_way : (m : Parts) → SomeMachine m → IsLoopUnderWay m.part
-loop_under_way m now = record { setting = now.0; play = now.1.play; tied = now.1.tied.loop_tied; room = now.1.room }
 
 -- a machine that is tied to a play whose hall and workers are these
 pub played_so : (s : CellSetting) (part : LoopPart) (hall : ServedHall) (workers : List Holding) (next : ServedPlay) (states : ℕ → PlainWorker) (now : HallInCell) → IsLoopTied s part next

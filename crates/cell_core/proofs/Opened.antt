@@ -165,11 +165,6 @@ first_is services told count =
       workers = λ w. refl;
     }
 
--- so many workers move: one at least
-pub workers_max : (n : ℕ) → max n 1 ≡ workers_among n
-workers_max zero = refl
-workers_max (suc n) = let e : max (suc n) 1 ≡ suc n = omega arith in e
-
 idle_each : (n w : ℕ) → idle ≡ worker_in (replicate n Idle) w
 idle_each zero w = refl
 idle_each (suc n) zero = refl

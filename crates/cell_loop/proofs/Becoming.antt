@@ -1,6 +1,5 @@
 -- The loop's part stays tied to a play after an event of one connection, where a feed alone has changed, and where there is more room.
-use Rattle.std.proofs.Common.{◌≡◌, ℕ, suc, ◌+◌, ◌*◌, ◌^◌, ◌<◌, ◌≤◌, ◌⊎◌, Option, None, Some, List, [], ◌∷◌, ◌++◌, length, drop, slice_get, slice_index_or, slice_set, Vec, Global, refl, sym, ap, ◌∙◌, subst, inl, inr, arith}
-use Rattle.std.specs.Vec.{vec_capacity}
+use Rattle.std.proofs.Common.{◌≡◌, ℕ, suc, ◌<◌, ◌≤◌, ◌⊎◌, Option, None, Some, List, [], ◌∷◌, ◌++◌, length, drop, slice_get, slice_index_or, slice_set, Vec, Global, refl, sym, ap, ◌∙◌, subst, inl, inr, arith}
 use Rattle.std.specs.List.{AllByRecursion}
 use Rattle.std.proofs.lemmas.Bool.{cases_eq}
 use Rattle.streams.specs.declared.marks.Mark.{Mark}
@@ -18,7 +17,7 @@ use Rattle.cell_loop.specs.declared.loop_part.CellStage.TheVariants.{Lean, Over}
 use Rattle.cell_loop.specs.declared.loop_part.LoopPart.{LoopPart}
 use Rattle.cell_loop.specs.Settings.{CellSetting, ServedPlay}
 use Rattle.cell_loop.specs.Feeds.{unread_of, finish_of, rules_left, unread_in, finish_in, rules_in, HasFeed, BoundsSome}
-use Rattle.cell_loop.specs.LoopTied.{CellStageTells, IsLoopTied, HasRoomToClose}
+use Rattle.cell_loop.specs.LoopTied.{CellStageTells, IsLoopTied}
 use Rattle.conn_refinement.specs.Tables.{IsSameBut}
 use Rattle.cell_loop.specs.Closing.{HasStand, HasMoreRoom}
 use Rattle.cell_loop.proofs.Tying.{stand_set, kept_at, AreFeedsTied, feeds_of, HasChanged, loop_changed, changed_tied, told_same, stand_moved}
@@ -191,15 +190,3 @@ moved_tied s part play t = fed_only s part part play (moved_on play) t refl refl
 pub more_room_tied : (s : CellSetting) (old new : LoopPart) (play : ServedPlay) → HasMoreRoom old new → IsLoopTied s old play → IsLoopTied s new play
 more_room_tied s old new play more t =
     fed_only s old new play play t more.table more.tape more.stages (feeds_counted old new more.feeds) refl refl (feeds_same s old new play t more.feeds)
-
-pub more_room : (old new : LoopPart) → HasMoreRoom old new → HasRoomToClose old → HasRoomToClose new
-more_room old new more room =
-    let a : length old.tape.items + 2 * length old.table.slots ≤ old.tape.capacity = room.for_marks in
-    let b : length old.stages.items ≤ vec_capacity old.ends = room.for_causes in
-    let n : length old.stages.items ≤ 2 ^ 32 = room.numbered in
-    let tape : length new.tape.items ≡ length old.tape.items = ap length more.tape in
-    let slots : length new.table.slots ≡ length old.table.slots = ap (λ (v : TableView). length v.slots) more.table in
-    let stages : length new.stages.items ≡ length old.stages.items = ap length more.stages in
-    let marks : old.tape.capacity ≤ new.tape.capacity = more.for_marks in
-    let causes : vec_capacity old.ends ≤ vec_capacity new.ends = more.for_causes in
-    record { for_marks = omega arith; for_causes = omega arith; none_yet = more.ends ∙ room.none_yet; numbered = subst (λ k. k ≤ 2 ^ 32) (sym stages) n }

@@ -1,8 +1,7 @@
 -- Each move of a rehearsal keeps the sizes that are admitted, and those under way, within the budget.
-use Rattle.std.proofs.Common.{◌≡◌, ℕ, suc, ◌+◌, ◌-◌, ◌<◌, ◌≤◌, ◌^◌, min, not, nat_lt, nat_le, true, false, if◌then◌else◌, Option, None, Some, List, [], ◌∷◌, map, length, take, drop, refl, sym, ap, ◌∙◌, subst, arith}
-use Rattle.std.proofs.lemmas.Bool.{and_parts, ltb-true, ltb-false, leb-true, false≢true}
+use Rattle.std.proofs.Common.{◌≡◌, ℕ, suc, ◌+◌, ◌-◌, ◌<◌, ◌≤◌, ◌^◌, min, not, nat_lt, nat_le, if◌then◌else◌, Option, None, Some, List, [], ◌∷◌, map, length, take, drop, refl, sym, ap, ◌∙◌, subst, arith}
+use Rattle.std.proofs.lemmas.Bool.{and_parts, ltb-true, ltb-false, leb-true}
 use Rattle.std.proofs.lemmas.Option.{none-some}
-use Rattle.host_model.specs.declared.cause.EndCause.{EndCause}
 use Rattle.host_model.specs.declared.cause.EndCause.TheVariants.{ReadFault, WriteFault, NoMemory}
 use Rattle.host_model.specs.Journal.{ServiceRules, entries_of}
 use Rattle.host_model.specs.DeskRules.{DeskRules, DeskDecision, Close, Silent, Reply, Invoke}
@@ -23,11 +22,6 @@ use Rattle.script_model.specs.Playing.{InputFinish, finishes, faults, MemoryAt, 
 use Rattle.script_model.proofs.Meeting.{Meets, met, either_meets, or_meets, mapped_meets}
 use Rattle.cell_loop.specs.Admitted.{AdmitsWithin}
 use Rattle.cell_loop.proofs.SizesKept.{begun_within, left_admitted, stays_admits, opened_admits, admitted_more, ended_admits, written_admits, read_admits, settled_admits}
-
--- a connection without a cause
-no_cause_so : (cause : Option EndCause) → has_none_yet cause ≡ true → cause ≡ None
-no_cause_so None e = refl
-no_cause_so (Some cause) e = absurd (false≢true e)
 
 -- the first of two lists that are the same
 heads_same : {X : Type 0} (x y : X) (xs ys : List X) → x ∷ xs ≡ y ∷ ys → x ≡ y

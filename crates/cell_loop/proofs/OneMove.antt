@@ -1,5 +1,5 @@
 -- What the move of a connection is, by what is kept of it, and what an event of it leaves.
-use Rattle.std.proofs.Common.{◌≡◌, ◌≢◌, ℕ, suc, ◌-◌, ◌<◌, ◌≤◌, ◌==◌, Bool, true, false, ◌&&◌, not, nat_lt, nat_le, if◌then◌else◌, Option, None, Some, List, [], ◌∷◌, ◌++◌, length, take, drop, option_map, refl, ap, ◌∙◌, arith}
+use Rattle.std.proofs.Common.{◌≡◌, ℕ, suc, ◌-◌, ◌<◌, ◌≤◌, ◌==◌, Bool, true, false, ◌&&◌, not, nat_lt, nat_le, if◌then◌else◌, Option, None, Some, List, [], ◌∷◌, ◌++◌, length, take, drop, option_map, refl, ap, ◌∙◌, arith}
 use Rattle.std.proofs.lemmas.Bool.{and_from, lt-ltb, le-ltb, le-leb, eq-eqb}
 use Rattle.streams.specs.declared.marks.Mark.{Mark}
 use Rattle.streams.specs.declared.marks.Mark.TheVariants.{Ended, Wrote, ReadFailed, WriteFailed, Closed}
@@ -23,10 +23,6 @@ done_at doing old new at moves leads =
 -- there are no bytes, or there are
 pub none_there : (bytes : List ℕ) → bytes ≡ [] → is_empty bytes ≡ true
 none_there bytes e = ap is_empty e
-
-pub some_there : (bytes : List ℕ) → bytes ≢ [] → is_empty bytes ≡ false
-some_there [] n = absurd (n refl)
-some_there (x ∷ xs) n = refl
 
 pub some_counted : (bytes : List ℕ) → 0 < length bytes → is_empty bytes ≡ false
 some_counted [] l = absurd (let f : ⊥ = omega arith in f)
@@ -66,17 +62,6 @@ module _ (s : CellSetting) (c : ℕ) (play : ServedPlay) (memory : ℕ → Memor
       let test : nat_lt (play.cell.loop.conns c).submitted (length (play.cell.loop.conns c).payloads) ≡ true =
       lt-ltb (play.cell.loop.conns c).submitted (length (play.cell.loop.conns c).payloads) whole in
       λ i. by_tests (opened i) (none i) (test i) (nat_lt (play.cell.loop.conns c).collected (play.cell.loop.conns c).submitted) (nat_lt (length (play.cell.loop.conns c).held) 4)
-
-  -- an outcome is awaited
-  pub moves_to_none : is_open play.cell.loop c ≡ true → (play.cell.loop.conns c).left ≡ [] → length (play.cell.loop.conns c).payloads ≤ (play.cell.loop.conns c).submitted
-      → (play.cell.loop.conns c).collected < (play.cell.loop.conns c).submitted → conn_move (desk_of_setting s) handler_rules memory s.budget c play ≡ None
-  moves_to_none opened left all asked =
-      let none : is_empty (play.cell.loop.conns c).left ≡ true = none_there (play.cell.loop.conns c).left left in
-      let whole : nat_lt (play.cell.loop.conns c).submitted (length (play.cell.loop.conns c).payloads) ≡ false =
-      le-ltb (play.cell.loop.conns c).submitted (length (play.cell.loop.conns c).payloads) all in
-      let test : nat_lt (play.cell.loop.conns c).collected (play.cell.loop.conns c).submitted ≡ true =
-      lt-ltb (play.cell.loop.conns c).collected (play.cell.loop.conns c).submitted asked in
-      λ i. by_tests (opened i) (none i) (whole i) (test i) (nat_lt (length (play.cell.loop.conns c).held) 4)
 
   -- nothing is owed: a size is read, or what is behind one
   module _ (opened : is_open play.cell.loop c ≡ true) (left : (play.cell.loop.conns c).left ≡ []) (submitted : (play.cell.loop.conns c).submitted ≡ length (play.cell.loop.conns c).payloads)

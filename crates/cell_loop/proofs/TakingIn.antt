@@ -1,6 +1,5 @@
 -- What is kept where bytes were taken in, before it is looked what they make.
-use Rattle.std.proofs.Common.{◌≡◌, ◌↔◌, ℕ, ◌+◌, ◌*◌, ◌^◌, ◌<◌, ◌≤◌, true, Option, None, Some, IsSome, List, [], ◌∷◌, ◌++◌, length, take, drop, min, slice_set, Vec, Global, refl, sym, ap, ◌∙◌, subst, arith, append_assoc, length-append}
-use Rattle.std.proofs.lemmas.Bool.{false≢true}
+use Rattle.std.proofs.Common.{◌≡◌, ◌↔◌, ℕ, ◌+◌, ◌*◌, ◌^◌, ◌<◌, ◌≤◌, true, None, Some, IsSome, List, [], ◌∷◌, ◌++◌, length, take, drop, min, slice_set, Vec, Global, sym, ap, ◌∙◌, subst, arith, append_assoc, length-append}
 use Rattle.std.specs.Vec.{vec_capacity}
 use Rattle.streams.specs.declared.marks.Mark.TheVariants.{Read, Closed}
 use Rattle.streams.specs.Rows.{TapeView}
@@ -93,11 +92,6 @@ module _ (c max : ℕ) (old mid : LoopPart) (bytes : List ℕ) (h : HasTaken c m
           none_yet = ap (λ (v : Vec EndCause Global). v.items) h.ends ∙ room.none_yet;
           numbered = subst (λ n. n ≤ 2 ^ 32) (sym known) room.numbered;
         }
-
--- a phase that has ended has a cause
-pub some_cause : (o : Option EndCause) → IsSome o → (cause : EndCause) × (o ≡ Some cause)
-some_cause None some = absurd (false≢true some)
-some_cause (Some cause) some = (cause, refl)
 
 -- what the calls of `take_in` say, put together
 pub has_taken : (c max : ℕ) (old mid : LoopPart) (bytes : List ℕ) (before : TapeView) → IsReadingAt c old

@@ -36,9 +36,6 @@ stand_set stages c stage l =
       others = λ x n. get_or-set_other stages c x stage Lean (λ e. n (sym e));
     }
 
-pub stand_then : (c : ℕ) (first last : CellStage) (old mid new : List CellStage) → HasStand c first old mid → HasStand c last mid new → HasStand c last old new
-stand_then c first last old mid new a b = record { count = b.count ∙ a.count; own = b.own; others = λ x n. b.others x n ∙ a.others x n }
-
 pub stand_same : (stages : List CellStage) (c : ℕ) (stage : CellStage) → slice_index_or stages c Lean ≡ stage → HasStand c stage stages stages
 stand_same stages c stage is = record { count = refl; own = is; others = λ x n. refl }
 

@@ -1,6 +1,6 @@
 -- The rows of a parse hold words, each beside a name.
 use Rattle.std.proofs.Common.{◌≡◌, ◌∙◌, Bool, cond, true, false, ◌||◌, List, [], ◌∷◌, ◌++◌, Option, Some, None, refl, sym, ap, subst, true≢false}
-use Rattle.std.specs.Prelude.{is_some, unwrap_or, option_map}
+use Rattle.std.specs.Prelude.{is_some, unwrap_or}
 use Rattle.std.specs.Str.{bytes_eq}
 use Rattle.std.proofs.lemmas.Slice.Eq.{bytes_eq-Decides}
 use Rattle.clap.specs.declared.builder.value_parser.Reading.{Reading}
@@ -16,9 +16,6 @@ pub is_itself : (a : Text) → bytes_eq a a ≡ true
 is_itself a = (bytes_eq-Decides a a).1 refl
 
 -- ---- what the rows hold
-
-abbrev pub values_in : Option Row → Option (List Text)
-values_in o = option_map (λ (r : Row). r.values) o
 
 -- the row of an id with more values, or a new one
 pub more_held : (id : Text) (how : Reading) (s : ValueSource) (vs : List Text) (rows : List Row)

@@ -1,19 +1,18 @@
 -- What a table keeps where the state or the size of one connection has changed.
-use Rattle.std.proofs.Common.{◌≡◌, ℕ, ◌<◌, ◌≤◌, ◌⊎◌, Option, Some, List, [], length, slice_get, slice_set, sym, ap, ◌∙◌, subst, inl, inr, IsSome, refl, arith}
+use Rattle.std.proofs.Common.{◌≡◌, ℕ, ◌<◌, ◌≤◌, ◌⊎◌, Option, Some, List, [], length, slice_get, sym, ap, ◌∙◌, subst, inl, inr, IsSome, refl, arith}
 use Rattle.std.proofs.lemmas.Bool.{cases_lt}
-use Rattle.std.proofs.lemmas.Option.{none-some, slice_get_past, slice_get-get_or}
-use Rattle.std.proofs.lemmas.List.{get_or-set_same, get_or-set_other, length-set}
+use Rattle.std.proofs.lemmas.Option.{none-some, slice_get_past}
 use Rattle.streams.specs.declared.outcomes.Settled.{Settled}
 use Rattle.streams.specs.declared.outcomes.Settled.TheVariants.{Reply, Nothing, Close, NoMemory as NoRoom}
 use Rattle.conn_state.specs.Phase.{ConnView}
 use Rattle.conn_state.specs.Run.{EachIsByte}
 use Rattle.conn_state.specs.Step.{after_answer}
 use Rattle.conn_table.specs.declared.places.Slot.{Slot}
-use Rattle.conn_table.specs.Slots.{slot_in, with_slot, with_added, without_number}
+use Rattle.conn_table.specs.Slots.{slot_in, with_slot, without_number}
 use Rattle.conn_table.specs.Table.{TableView, slot_of, with_state, with_size, TakesRoom}
 use Rattle.conn_table.proofs.Placing.{has_value}
 use Rattle.conn_table.proofs.Rising.{count_put}
-use Rattle.conn_table.proofs.Sizing.{found_put, of_found, other_put, other_more, other_without}
+use Rattle.conn_table.proofs.Sizing.{found_put, of_found, other_put, other_without}
 use Rattle.conn_refinement.specs.Tables.{IsSameBut}
 
 -- no byte is one
@@ -23,9 +22,6 @@ no_bytes i = omega arith
 -- tables that differ in one connection
 pub but_put : (table : TableView) (c : ℕ) (new : Slot) → new.number ≡ c → IsSameBut c table (record table { slots = with_slot new table.slots })
 but_put table c new is = record { budget = refl; others = λ x n. other_put new x table.slots (λ e. n (sym is ∙ e)) }
-
-pub but_more : (table : TableView) (c : ℕ) (new : Slot) → new.number ≡ c → IsSameBut c table (record table { slots = with_added new table.slots })
-but_more table c new is = record { budget = refl; others = λ x n. other_more new x table.slots (λ e. n (sym is ∙ e)) }
 
 pub but_gone : (table : TableView) (c : ℕ) → IsSameBut c table (record table { slots = without_number c table.slots })
 but_gone table c = record { budget = refl; others = λ x n. other_without c x table.slots n }
@@ -40,26 +36,6 @@ place_of xs c x e = go (cases_lt c (length xs))
     go : (c < length xs) ⊎ (length xs ≤ c) → c < length xs
     go (inl l) = l
     go (inr l) = absurd (none-some x (sym (slice_get_past xs c l) ∙ e))
-
--- an element that was put there, and others
-pub got_same : {X : Type 0} (xs : List X) (c : ℕ) (x : X) → c < length xs → slice_get (slice_set xs c x) c ≡ Some x
-got_same xs c x l =
-    let k : length (slice_set xs c x) ≡ length xs = length-set xs c x in
-    slice_get-get_or (slice_set xs c x) c x (omega arith) ∙ ap Some (get_or-set_same xs c x x l)
-
-pub got_other : {X : Type 0} (xs : List X) (c i : ℕ) (x : X) → (c ≡ i → ⊥) → slice_get (slice_set xs c x) i ≡ slice_get xs i
-got_other xs c i x n = go (cases_lt i (length xs))
-  where
-    k : length (slice_set xs c x) ≡ length xs
-    k = length-set xs c x
-
-    go : (i < length xs) ⊎ (length xs ≤ i) → slice_get (slice_set xs c x) i ≡ slice_get xs i
-    go (inl l) =
-        let m : length (slice_set xs c x) ≡ length xs = k in
-        slice_get-get_or (slice_set xs c x) i x (omega arith) ∙ ap Some (get_or-set_other xs c i x x (λ e. n (sym e))) ∙ sym (slice_get-get_or xs i x l)
-    go (inr l) =
-        let m : length (slice_set xs c x) ≡ length xs = k in
-        slice_get_past (slice_set xs c x) i (omega arith) ∙ sym (slice_get_past xs i l)
 
 -- a connection in this state, with the size that it has
 abbrev pub stated : ℕ → ConnView → List Slot → Slot

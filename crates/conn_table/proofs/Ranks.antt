@@ -2,7 +2,7 @@
 use Rattle.std.proofs.Common.{◌≡◌, ℕ, zero, suc, ◌+◌, ◌<◌, ◌≤◌, ◌⊎◌, if◌then◌else◌, Some, List, [], ◌∷◌, length, slice_get, refl, sym, ap, ◌∙◌, subst, inl, inr, arith, eq-eqb, ne_eqb}
 use Rattle.std.specs.List.{AllByRecursion}
 use Rattle.std.proofs.lemmas.Bool.{cases_eq, cases_lt, lt-ltb, le-ltb}
-use Rattle.std.proofs.lemmas.Option.{none-some, same_Some, slice_get_past, slice_get_within}
+use Rattle.std.proofs.lemmas.Option.{none-some, same_Some, slice_get_within}
 use Rattle.conn_table.specs.declared.places.Row.{Row}
 use Rattle.conn_table.specs.Rows.{key_in, IsRising, rank_below}
 
@@ -12,15 +12,6 @@ pub record IsBetween (c : ℕ) (rows : List Row) (low high : ℕ) : Type 0 where
   pub within : high ≤ length rows
   pub below : (k : ℕ) (row : Row) → slice_get rows k ≡ Some row → k < low → row.number < c
   pub above : (k : ℕ) (row : Row) → slice_get rows k ≡ Some row → high ≤ k → c ≤ row.number
-
-pub between_all : (c : ℕ) (rows : List Row) → IsBetween c rows 0 (length rows)
-between_all c rows =
-    record {
-      order = omega arith;
-      within = omega arith;
-      below = λ k row e l. absurd (let f : ⊥ = omega arith in f);
-      above = λ k row e l. absurd (none-some row (sym (slice_get_past rows k l) ∙ e));
-    }
 
 all_get : (P : Row → Type 0) (rows : List Row) (k : ℕ) (row : Row) → AllByRecursion P rows → slice_get rows k ≡ Some row → P row
 all_get P [] k row a e = absurd (none-some row e)

@@ -15,10 +15,6 @@ abbrev pub opened_hall : List ServiceState → Option (List CallEntry) → ℕ �
 opened_hall services told faults =
     record { jobs = []; taken = []; outcomes = []; memories = services; told = told; faults = faults; closed = false; broken = false }
 
--- what its queue holds
-abbrev pub queue_of : ServedHall → QueueView
-queue_of hall = record { jobs = hall.jobs; taken = hall.taken; outcomes = hall.outcomes }
-
 -- the hall with another queue
 abbrev pub with_queue : ServedHall → QueueView → ServedHall
 with_queue hall q = record hall { jobs = q.jobs; taken = q.taken; outcomes = q.outcomes }

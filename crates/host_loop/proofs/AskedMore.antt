@@ -4,9 +4,8 @@ use Rattle.std.specs.List.{AllByRecursion}
 use Rattle.std.proofs.lemmas.Option.{IfSome_then}
 use Rattle.streams.specs.declared.rest_place.RestPlace.{RestPlace}
 use Rattle.outside.specs.LinksState.{LinksState}
-use Rattle.call_history.specs.Calls.{seat_ask}
-use Rattle.call_rules.specs.PlainCalls.{PlainCall, PlainAnswer}
-use Rattle.machine_model.specs.HallRule.{HallOperation, HallAnswer, collect, close, empty, is_closed}
+use Rattle.call_rules.specs.PlainCalls.{PlainCall}
+use Rattle.machine_model.specs.HallRule.{HallOperation}
 use Rattle.machine_model.specs.OwnCalls.{any_of, summed_calls}
 use Rattle.machine_model.specs.OwnLoop.{refuses_job}
 use Rattle.machine_model.specs.Loop.{Loop, LoopAsks}
@@ -14,7 +13,7 @@ use Rattle.machine_model.specs.Merge.{handles, calls, no_loop}
 use Rattle.machine_model.proofs.Extending.{weaves-append, calls-append}
 use Rattle.machine_model.proofs.Owning.{number_push}
 use Rattle.loop_conns.specs.declared.connections.LoopConnections.{LoopConnections}
-use Rattle.loop_conns.specs.Woven.{ServedItem, ServedAsk, WeavesLent, IsPassedAtRest, IsWovenTo, HasWoven, LoopIsRunning}
+use Rattle.loop_conns.specs.Woven.{ServedItem, ServedAsk, WeavesLent, IsPassedAtRest, IsWovenTo, LoopIsRunning}
 
 -- one more ask at the end of what was woven with its lengths
 ask_behind : (max : ℕ) (items : List ServedItem) (lengths : List ℕ) (old mid : Loop) (e : ServedAsk) → WeavesLent max old items lengths mid → LoopAsks mid e.op e.reply mid
@@ -71,20 +70,6 @@ module _ (max : ℕ) (first links : LinksState) (kept : LoopConnections) (asks :
         owing = g.owing;
         quiet = g.quiet;
       }
-
-  -- the hall is closed
-  pub closed_woven : (seat : ℕ) (answer : HallAnswer PlainAnswer) → HasWoven max first links kept asks → HasWoven max first links kept (asks ++ seat_ask seat close answer ∷ [])
-  closed_woven seat answer w = (w.0, asks_woven w.0 (seat_ask seat close answer) refl w.1)
-
-  pub closed_goes : (seat : ℕ) (answer : HallAnswer PlainAnswer) → LoopIsRunning max first links kept asks → LoopIsRunning max first links kept (asks ++ seat_ask seat close answer ∷ [])
-  closed_goes seat answer g = asks_goes g (seat_ask seat close answer) refl refl
-
-  -- no outcome was there
-  pub empty_goes : (seat : ℕ) → LoopIsRunning max first links kept asks → LoopIsRunning max first links kept (asks ++ seat_ask seat collect empty ∷ [])
-  empty_goes seat g = asks_goes g (seat_ask seat collect empty) refl refl
-
-  pub none_goes : (seat : ℕ) → LoopIsRunning max first links kept asks → LoopIsRunning max first links kept (asks ++ seat_ask seat collect is_closed ∷ [])
-  none_goes seat g = asks_goes g (seat_ask seat collect is_closed) refl refl
 
 -- none of these does it, and the last doesn't
 pub none_last : (test : HallOperation PlainCall → Bool) (own : List ServedAsk) (e : ServedAsk) → any_of test own ≡ false → test e.op ≡ false → any_of test (own ++ e ∷ []) ≡ false

@@ -4,7 +4,7 @@ use Rattle.conn_table.specs.declared.run_limits.Limits.{Limits}
 use Rattle.conn_table.specs.declared.run_limits.Outcome.{Outcome}
 use Rattle.conn_table.specs.declared.run_limits.Outcome.TheVariants.{All as AllOver, NetFault, JournalFault, NoMemory}
 use Rattle.call_rules.specs.Desks.{DeskMeaning, longest_payload}
-use Rattle.seat_booth.specs.Seats.{BoothView, IsSeatOf}
+use Rattle.seat_booth.specs.Seats.{BoothView}
 use Rattle.hall_core.specs.Meant.{ServedHall}
 use Rattle.hall_pool.specs.Turns.{asks_made}
 use Rattle.hall_pool.specs.Jobs.{HallSeat}
@@ -15,10 +15,6 @@ use Rattle.host_loop.specs.Served.{ServerSetting, ServedRun}
 use Rattle.host_loop.specs.Ending.{EndTells, EndsServing}
 use Rattle.host_loop.specs.Going.{HaltTells, IsAtEnd}
 use Rattle.host_loop.specs.Left.{IsLeftOf}
-
--- seats that have served are of their booth
-pub all_placed : (desk : DeskMeaning) (booth : BoothView ServedHall) (crew : List HallSeat) → All (HasServed desk booth) crew → All (IsSeatOf booth) crew
-all_placed desk booth crew served k p l = (served k p l).place
 
 -- what this desk serves with, at a booth that was opened so
 abbrev pub setting_at : DeskMeaning → Limits → BoothView ServedHall → ServerSetting

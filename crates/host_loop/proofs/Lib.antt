@@ -16,4 +16,3 @@ mod OwnTurns
 mod Stopping
 mod Beginning
 mod LeftOver
-mod HallOpened

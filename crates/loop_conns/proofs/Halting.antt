@@ -9,11 +9,7 @@ use Rattle.loop_conns.specs.Stopped.{AllHaveEnded}
 use Rattle.loop_conns.proofs.Standing.{Standing, standing}
 use Rattle.loop_conns.proofs.Stops.{ended_all}
 
--- nothing was stopped yet
-pub come_none : (links : LinksState) (kept : LoopConnections) → AllKeepWoven links kept links kept
-come_none links kept max small first asks w = w
-
--- one more was
+-- one more was stopped
 pub come_then : (l0 l1 l2 : LinksState) (k0 k1 k2 : LoopConnections) → AllKeepWoven l0 k0 l1 k1 → AllKeepWoven l1 k1 l2 k2 → AllKeepWoven l0 k0 l2 k2
 come_then l0 l1 l2 k0 k1 k2 a b max small first asks w = b max small first asks (a max small first asks w)
 

@@ -35,7 +35,6 @@ use Rattle.loop_conns.proofs.Standing.{Standing, standing, owes_nothing}
 use Rattle.loop_conns.proofs.Owing.{begun_fits, owes_none, owes_outcome}
 use Rattle.machine_model.specs.OwnCalls.{summed_calls}
 use Rattle.machine_model.specs.OwnLoop.{refuses_job}
-use Rattle.loop_conns.proofs.Weaving.{lent_by}
 use Rattle.loop_conns.proofs.Going.{begun_less, change_goes}
 use Rattle.call_rules.specs.Desks.{longest_payload}
 
@@ -251,9 +250,6 @@ module _ (max c : ℕ) (old : LoopConnections) (bytes : List ℕ) (mid : TableVi
     -- it is open still
     open_still : (now : LoopConn) → now.cause ≡ None → read_links.is_open c ≡ true → IsOpenOnLinks read_links mid c now (slice_index_or old.causes.items c Stopped)
     open_still now going link = record { there = taken_there; link = link; going = going; stopped = stands.here.stopped }
-
-    moves_by : (progress : FrameProgress) → MovesOnly c (marks_read c bytes progress) (min (missing_of conn.held) most_read ∷ []) before read_links → MovesOnly c (marks_read c bytes progress) (lent_by g.loop (handles (reads c bytes))) before read_links
-    moves_by progress m = m
 
     moved : MovesOnly c (Read c bytes ∷ []) (min (missing_of conn.held) most_read ∷ []) before read_links
     moved = subst (λ lent. MovesOnly c (Read c bytes ∷ []) lent before read_links) lent_is moves

@@ -3,7 +3,7 @@ use Rattle.std.proofs.Common.{◌≡◌, ℕ, ℤ, pos, ◌<◌, ◌≤◌, ◌^
 use Rattle.std.specs.Int.{w32, to_be_bytes}
 use Rattle.streams.specs.Cause.{Rose}
 use Rattle.outside.specs.Pipes.{PipeState}
-use Rattle.host_model.specs.Frames.{size_bytes, IsOutside, IsPartial}
+use Rattle.host_model.specs.Frames.{size_bytes, IsPartial}
 use Rattle.port_calls.specs.Exchanging.{HasGot, HasHeard, HasHeardFrame, fault_of}
 use Rattle.port_calls.specs.declared.asking_fault.AskingFault.{AskingFault}
 use Rattle.port_calls.specs.declared.asking_fault.AskingFault.TheVariants as faults
@@ -11,39 +11,14 @@ use Rattle.port_calls.specs.declared.hearing.Unheard.{Unheard}
 use Rattle.port_calls.specs.declared.hearing.Unheard.TheVariants as unheard
 use Rattle.port_calls.proofs.HeardBytes.{got_on}
 
--- fewer bytes than a size has are less than a frame
-abbrev pub SizeLaw : ℕ → Type 0
-SizeLaw most = (bytes : List ℕ) → length bytes < 4 → IsPartial most bytes
-
--- and so are a size that a frame has, and fewer bytes than it says
+-- a size that a frame has and fewer bytes than it says are less than a frame
 abbrev pub PayloadLaw : Type 0
 PayloadLaw = (max size : ℕ) (bytes : List ℕ) → max < 2 ^ 31 → 1 ≤ size → size ≤ max → length bytes < size → IsPartial max (to_be_bytes w32 size ++ bytes)
 
 module _ {A B : Type 0} (most : ℕ) (size : B → List ℕ) (payload : A → List ℕ) where
-  -- the size couldn't be heard
-  unheard_by : (old new : PipeState) (u : Unheard) → SizeLaw most → HasHeard 4 size old new (Err u) → HasHeardFrame most payload old new (Err (fault_of u))
-  unheard_by old new unheard.NetFault law h =
-      record { so = (record { bytes = h.so.0.bytes; got = h.so.0.got; partial = law h.so.0.bytes h.so.0.fewer }, h.so.1) }
-  unheard_by old new unheard.NoMemory law h =
-      record { so = (record { bytes = h.so.0.bytes; got = h.so.0.got; partial = law h.so.0.bytes h.so.0.fewer }, h.so.1) }
-
-  pub unheard_size : (old new : PipeState) (u : Unheard) (e : AskingFault) → SizeLaw most → HasHeard 4 size old new (Err u) → e ≡ fault_of u
-      → HasHeardFrame most payload old new (Err e)
-  unheard_size old new u e law h is = subst (λ (f : AskingFault). HasHeardFrame most payload old new (Err f)) (sym is) (unheard_by old new u law h)
-
-  -- the end came before the size was whole
-  pub short_size : (old new : PipeState) (b : B) → SizeLaw most → HasHeard 4 size old new (Ok b) → length (size b) < 4 → HasHeardFrame most payload old new (Err faults.Cut)
-  short_size old new b law h less = record { so = (record { bytes = size b; got = h.so.short less; partial = law (size b) less }, h.so.kept) }
-
   -- the size is whole
   whole_size : (old new : PipeState) (b : B) → HasHeard 4 size old new (Ok b) → 4 ≤ length (size b) → HasGot (size b) false old new
   whole_size old new b h all = let within : length (size b) ≤ 4 = h.so.within in h.so.whole (omega arith)
-
-  -- no frame has it
-  pub bad_size : (old new : PipeState) (b : B) (z : ℤ) → HasHeard 4 size old new (Ok b) → 4 ≤ length (size b) → size_bytes z ≡ size b → IsOutside most z
-      → HasHeardFrame most payload old new (Err (faults.SizeFault z))
-  bad_size old new b z h all is outside =
-      record { so = (subst (λ (xs : List ℕ). HasGot xs false old new) (sym is) (whole_size old new b h all), outside, h.so.kept) }
 
   module _ (old mid new : PipeState) (b : B) (z : ℤ) (count : ℕ) (first : HasHeard 4 size old mid (Ok b)) (all : 4 ≤ length (size b)) (is : size_bytes z ≡ size b)
       (counts : pos count ≡ z) (some : 1 ≤ count) (within : count ≤ most) (small : most < 2 ^ 31) where
@@ -91,20 +66,6 @@ module _ {A B : Type 0} (most : ℕ) (size : B → List ℕ) (payload : A → Li
               got = got_on (to_be_bytes w32 count) (payload a) true old mid new sized (h.so.short less);
               partial = law most count (payload a) small some within less;
             },
-            h.so.kept ∙ first.so.kept,
-          );
-        }
-
-    -- the frame is whole
-    pub heard_frame : (a : A) → HasHeard count payload mid new (Ok a) → count ≤ length (payload a) → HasHeardFrame most payload old new (Ok a)
-    heard_frame a h whole =
-        let most_count : length (payload a) ≤ count = h.so.within in
-        let same : length (payload a) ≡ count = omega arith in
-        record {
-          so = (
-            subst (λ (n : ℕ). HasGot (to_be_bytes w32 n ++ payload a) false old new) (sym same)
-                (got_on (to_be_bytes w32 count) (payload a) false old mid new sized (h.so.whole same)),
-            record { some = omega arith; within = omega arith },
             h.so.kept ∙ first.so.kept,
           );
         }

@@ -3,12 +3,10 @@ use Rattle.std.proofs.Common.{◌≡◌, ℕ, ◌<◌, Bool, true, false, List, 
 use Rattle.std.specs.Prelude.{◌⊎◌, ◌||◌, nat_lt}
 use Rattle.streams.specs.Cause.{Rose, next_count}
 use Rattle.streams.specs.Content.{told_more}
-use Rattle.outside.specs.Binding.{HasBindCause}
 use Rattle.outside.specs.Pipes.{PipeState, told_end}
 use Rattle.outside.specs.Calling.{PastPipe, StartsCalling, called_with, told_called, next_if_either}
-use Rattle.outside.specs.declared.binder.BindFail.TheVariants as fails
 use Rattle.port_calls.specs.Exchanging.{HasMoved, HasNoFault, HasMovedInPart, HasTalked}
-use Rattle.port_calls.specs.Asked.{exchanged, IsBrokenExchange, MayCome, PipeTells, MayBeUndialled, HungUpOne, AskedSo, MeansAsked, HasAskingCause}
+use Rattle.port_calls.specs.Asked.{exchanged, IsBrokenExchange, MayCome, PipeTells, HungUpOne, MeansAsked, HasAskingCause}
 use Rattle.port_calls.specs.declared.asking_fault.AskingFault.{AskingFault}
 use Rattle.port_calls.specs.declared.asking_fault.AskingFault.TheVariants as faults
 
@@ -59,18 +57,6 @@ module _ {A : Type 0} (payload : A → List ℕ) (bytes : List ℕ) (waits : Boo
   hung_up (Some rows) mid now fresh last result s t same is =
       record { comes = comes_of fresh last result t; so = inl (told_so rows now fresh last result s t (is ∙ ap (λ c. told_called c last) same)) }
 
-  undialled : (before now : Option (List PastPipe)) (result : Result (Option A) AskingFault) → now ≡ before → MayBeUndialled result
-      → AskedSo payload before now port bytes waits most result
-  undialled None now result same may = same
-  undialled (Some rows) now result same may = inr (same, may)
-
-  -- none was dialled
-  pub not_dialled : (before now : Option (List PastPipe)) → now ≡ before → MeansAsked payload before now port bytes waits most (Err faults.NetFault)
-  not_dialled before now same = record { comes = tt; so = undialled before now (Err faults.NetFault) same tt }
-
-  pub no_memory : (before now : Option (List PastPipe)) → now ≡ before → MeansAsked payload before now port bytes waits most (Err faults.NoMemory)
-  no_memory before now same = record { comes = tt; so = undialled before now (Err faults.NoMemory) same tt }
-
 or_true : (a b : Bool) → b ≡ true → (a || b) ≡ true
 or_true true b e = refl
 or_true false b e = e
@@ -106,10 +92,3 @@ module _ {A : Type 0} (payload : A → List ℕ) (bytes : List ℕ) (waits : Boo
       subst (λ n. Rose n last.read_faults ⊎ Rose 0 last.write_faults) s.reads (subst (λ n. Rose fresh.read_faults last.read_faults ⊎ Rose n last.write_faults) s.writes t.so.1) in
       let now_is : now ≡ next_count mid = is ∙ either_rose last.read_faults last.write_faults mid rose in
       record { failed = λ _. omega arith; kept = λ other. absurd (other refl) }
-
-  -- the port couldn't be dialled
-  pub undialled_cause : {P : Type 0} (old mid : ℕ) → HasBindCause {A = P} old mid (Err fails.Failed) → HasAskingCause {A = Option A} old mid (Err faults.NetFault)
-  undialled_cause old mid h = record { failed = λ _. h.failed refl; kept = λ other. absurd (other refl) }
-
-  pub no_memory_cause : (old now : ℕ) → now ≡ old → HasAskingCause {A = Option A} old now (Err faults.NoMemory)
-  no_memory_cause old now same = kept_cause (Err faults.NoMemory) old now same (λ e. absurd (let g : ⊥ = cc in g))

@@ -1,5 +1,4 @@
 pub mod Coming
-pub mod Inputs
 pub mod OneReport
 pub mod Outputs
 pub mod PlainRuns

@@ -1,5 +1,5 @@
 -- A run of serving links over a script is one of the script.
-use Rattle.std.proofs.Common.{◌≡◌, ℕ, ◌<◌, ◌^◌, true, Option, Some, IfSome, List, [], ◌∷◌, ◌++◌, slice_get, refl, sym, ap, ◌∙◌, subst}
+use Rattle.std.proofs.Common.{◌≡◌, ℕ, ◌<◌, ◌^◌, true, Some, IfSome, List, ◌∷◌, ◌++◌, slice_get, refl, sym, ap, ◌∙◌, subst}
 use Rattle.streams.specs.declared.marks.Mark.{Mark}
 use Rattle.streams.specs.declared.marks.Mark.TheVariants.{Read, Wrote}
 use Rattle.std.proofs.lemmas.Grind.{flat_map-append}
@@ -103,7 +103,3 @@ ran a script before links run journal small served all is told own plan follow =
 -- The journal's count of faults rose, where it failed.
 pub journal_rose : (s : ServerSetting) (run : ServedRun) → IsServed s run → run.outcome ≡ outcomes.JournalFault → Rose run.faults_before run.faults
 journal_rose s run served is = let comes : ComesOutBy run outcomes.JournalFault = subst (ComesOutBy run) is served.comes_out in comes.1
-
--- A journal that tells that it is empty may be empty.
-pub told_empty : (told : Option (List CallEntry)) → told ≡ Some [] → MayHave told []
-told_empty told is = subst (λ o. MayHave o []) (sym is) refl

@@ -1,5 +1,5 @@
 -- What an answered recording says of its input and its output.
-use Rattle.std.specs.Prelude.{◌≡◌, ◌≢◌, ℕ, ◌<◌, true, List, ◌++◌, Option, Some, Result, slice_get}
+use Rattle.std.specs.Prelude.{◌≡◌, ◌≢◌, ℕ, ◌<◌, true, List, ◌++◌, Some, Result, slice_get}
 use Rattle.streams.specs.declared.marks.Mark.{Mark}
 use Rattle.host_model.specs.declared.cause.EndCause.{EndCause}
 use Rattle.host_model.specs.declared.cause.EndCause.TheVariants.{Stopped, NoMemory}
@@ -13,10 +13,9 @@ use Rattle.script_model.specs.Playing.{always_ample}
 use Rattle.script_model.specs.Fed.{IsFedBy}
 use Rattle.script_model.specs.Showing.{IsRehearsedTo}
 use Rattle.script_model.specs.Failing.{EndsByItsPieces}
-use Rattle.script_text.specs.declared.fault.ScriptFault.{ScriptFault}
 use Rattle.script_text.specs.Reading.{script_of_text}
 use Rattle.recorded_runs.specs.declared.fault.ServingFault.{ServingFault}
-use Rattle.recorded_runs.specs.Recorded.{Streams, ScriptReading, ReportsRunOf, IsReportOfInput, IsReportWritten, IsReportBegun, IsRefusedInput, MeansRecordedFault, MeansRecorded}
+use Rattle.recorded_runs.specs.Recorded.{Streams, ScriptReading, ReportsRunOf, IsReportOfInput, MeansRecorded}
 
 -- What answers: a desk, the services as they were before, how many workers were asked for, and the read budget; and the line of an entry.
 pub record Answering : Type 0 where
@@ -53,22 +52,6 @@ script_for a = script_of_text a.workers true
 -- The input was a script, read to its end, and this is the report of a run of it.
 abbrev pub IsReportOf : Answering → Streams → List ℕ → Type 0
 IsReportOf a s report = IsReportOfInput (script_for a) (IsRunOfScript a) a.line s report
-
--- a report was written whole
-abbrev pub IsReported : Answering → Streams → Type 0
-IsReported a s = IsReportWritten (script_for a) (IsRunOfScript a) a.line s
-
--- a beginning of a report was written
-abbrev pub IsReportedInPart : Answering → Streams → Type 0
-IsReportedInPart a s = IsReportBegun (script_for a) (IsRunOfScript a) a.line s
-
--- the input is no script: this is its first fault
-abbrev pub IsNoScript : Answering → ScriptFault → Option (List ℕ) → Type 0
-IsNoScript a fault left_before = IsRefusedInput (script_for a) fault left_before
-
--- what a fault says of the input and the output
-abbrev pub MeansFault : Answering → ServingFault → Streams → Type 0
-MeansFault a fault s = MeansRecordedFault (script_for a) (IsRunOfScript a) a.line fault s
 
 -- what a result says of them
 abbrev pub MeansAnswered : {A : Type 0} → Answering → Result A ServingFault → Streams → Type 0

@@ -1,8 +1,8 @@
 -- A script taken apart: each connection has its own pieces and rules, and what holds of the script holds of them.
-use Rattle.std.proofs.Common.{◌≡◌, ◌≢◌, ℕ, zero, suc, ◌+◌, ◌*◌, ◌<◌, ◌≤◌, ◌^◌, Bool, true, false, ◌&&◌, ◌==◌, nat_lt, if◌then◌else◌, List, [], ◌∷◌, ◌++◌, map, length, replicate, drop, get_or, slice_set, refl, sym, ap, ◌∙◌, subst, arith, append_assoc, length-append, ◌⊎◌, inl, inr}
+use Rattle.std.proofs.Common.{◌≡◌, ◌≢◌, ℕ, zero, suc, ◌+◌, ◌*◌, ◌<◌, ◌≤◌, ◌^◌, Bool, true, false, ◌&&◌, ◌==◌, nat_lt, if◌then◌else◌, List, [], ◌∷◌, ◌++◌, map, length, replicate, drop, get_or, refl, sym, ap, ◌∙◌, subst, arith, append_assoc, length-append, ◌⊎◌, inl, inr}
 use Rattle.std.specs.List.{list_all, count_by}
 use Rattle.std.proofs.lemmas.Bool.{and_parts, cases_eq, eq-eqb, ne_eqb, lt-ltb, le-leb}
-use Rattle.std.proofs.lemmas.List.{append-nil, map-append, length-set, length-map, get_or-set_same, get_or-set_other, get_or_read, set_past}
+use Rattle.std.proofs.lemmas.List.{append-nil, map-append, length-set, length-map, get_or-set_same, get_or-set_other}
 use Rattle.std.proofs.lemmas.List.Folds.{list_all-append}
 use Rattle.script_model.specs.ScriptLines.{PlanLine, opening, piece, input_end, input_fault, resting, turn_of_conn, turn_of_worker, turn_of_outcome, PlanRule, takes_most, blocks, fails, ScriptPlan, piece_by, pieces_on, rules_of, openings, count_up}
 use Rattle.script_text.specs.Sound.{IsSoundPlan}
@@ -30,15 +30,6 @@ use Rattle.script_links.proofs.LinkFollowing.{fresh_follows}
 pub dealt_push : (lines : List PlanLine) (line : PlanLine) (rows : List (List (List ℕ))) → dealt (lines ++ line ∷ []) rows ≡ with_line line (dealt lines rows)
 dealt_push [] line rows = refl
 dealt_push (first ∷ lines) line rows = dealt_push lines line (with_line first rows)
-
--- a piece is added to the row at its place, and past the last one there is none
-pub piece_put : (rows : List (List (List ℕ))) (c : ℕ) (old new : List (List ℕ)) (bytes : List ℕ) → c < length rows → old ≡ get_or rows c old → new ≡ old ++ bytes ∷ []
-    → slice_set rows c new ≡ with_piece c bytes rows
-piece_put rows c old new bytes below is more =
-    ap (λ row. slice_set rows c row) (more ∙ ap (λ row. row ++ bytes ∷ []) (get_or_read rows c old below is []))
-
-pub piece_past : (rows : List (List (List ℕ))) (c : ℕ) (bytes : List ℕ) → length rows ≤ c → rows ≡ with_piece c bytes rows
-piece_past rows c bytes past = sym (set_past rows c (get_or rows c [] ++ bytes ∷ []) past)
 
 length_with : (line : PlanLine) (rows : List (List (List ℕ))) → length (with_line line rows) ≡ length rows
 length_with (piece c bytes) rows = length-set rows c _
@@ -88,10 +79,6 @@ empty_at : (n k : ℕ) → get_or (replicate n no_pieces) k [] ≡ []
 empty_at zero k = refl
 empty_at (suc n) zero = refl
 empty_at (suc n) (suc k) = empty_at n k
-
-pub one_row : (n : ℕ) → replicate n no_pieces ++ [] ∷ [] ≡ replicate (suc n) []
-one_row zero = refl
-one_row (suc n) = ap (λ xs. [] ∷ xs) (one_row n)
 
 length_empty : (n : ℕ) → length (replicate n no_pieces) ≡ n
 length_empty zero = refl

@@ -1,6 +1,6 @@
 -- Connections in memory, and as plain data by their numbers.
-use Rattle.std.proofs.Common.{◌≡◌, ◌≢◌, ℕ, zero, suc, ◌+◌, ◌<◌, ◌≤◌, Bool, true, false, ◌||◌, List, [], ◌∷◌, length, drop, get_or, slice_set, refl, sym, ap, ◌∙◌, subst, arith, true≢false}
-use Rattle.std.proofs.lemmas.List.{map-set, set-get_or, drop-drop, length-map, get_or-map, get_or-set_same, get_or-set_other, get_or_past}
+use Rattle.std.proofs.Common.{◌≡◌, ◌≢◌, ℕ, zero, suc, ◌+◌, ◌<◌, Bool, true, false, ◌||◌, List, [], ◌∷◌, length, drop, get_or, slice_set, refl, sym, ap, ◌∙◌, subst, arith, true≢false}
+use Rattle.std.proofs.lemmas.List.{map-set, set-get_or, drop-drop, length-map, get_or-map, get_or-set_same, get_or-set_other}
 use Rattle.std.specs.List.{list_any}
 use Rattle.script_links.specs.declared.link.ScriptConn.{ScriptConn}
 use Rattle.script_links.specs.ServedScript.{PlainLink, no_link, link_at, with_link, is_open_stage, is_open_at, is_coming}
@@ -30,10 +30,6 @@ any_plain p (link ∷ links) = ap (λ b. p (plain_link link) || b) (any_plain p 
 -- steps after one more
 pub drop_on : {X : Type 0} (n : ℕ) (xs : List X) → drop 1 (drop n xs) ≡ drop (n + 1) xs
 drop_on n xs = drop-drop 1 n xs
-
--- past the last one there is none
-pub past_place : (links : List ScriptConn) (c : ℕ) → length links ≤ c → link_at (plain_links links) c ≡ no_link
-past_place links c past = get_or_past (plain_links links) c no_link (subst (λ n. n ≤ c) (sym (length-map links plain_link)) past)
 
 -- one that is open, or to come, is there
 pub open_is_there : (links : List PlainLink) (c : ℕ) → is_open_at links c ≡ true → c < length links

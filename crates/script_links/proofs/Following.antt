@@ -87,9 +87,6 @@ module _ (script : ScriptPlan) (s : ServedScript) (f : FollowsSoFar script s) wh
   }
 
   module _ (c : ℕ) (below : c < length s.links) (change : PlainLink → PlainLink) where
-    changed_links : List PlainLink
-    changed_links = with_link c change s.links
-
     as_many : length (with_link c change s.links) ≡ length s.links
     as_many = length-set s.links c (change (link_at s.links c))
 

@@ -57,11 +57,7 @@ module _ (ask : Ask) (step : Step) (s t : ServedScript) (first : first_of s.step
   on (Gives hint) e = absurd (true≢false (sym (ap (λ (n : Next). goes_on n.came) e)))
   on Waits e = absurd (true≢false (sym (ap (λ (n : Next). goes_on n.came) e)))
 
-  -- a step that goes on leaves what all comes to
-  pub went_on : one_step ask step s ≡ record { came = GoesOn; left = t } → next_step ask s ≡ next_step ask t
-  went_on e = unrolled ∙ on (came_of ask s step) e
-
-  -- and one step less
+  -- a step that goes on leaves one step less
   pub fewer : one_step ask step s ≡ record { came = GoesOn; left = t } → suc (length t.steps) ≡ length s.steps
   fewer e =
       let same : t.steps ≡ drop 1 s.steps = sym (ap (λ (x : ServedScript). x.steps) (went (came_of ask s step) e)) ∙ after_keeps ask (record s { steps = drop 1 s.steps }) step in

@@ -10,7 +10,7 @@ use Rattle.script_links.specs.declared.link.LinkStage.TheVariants.{Coming, Open,
 use Rattle.streams.specs.declared.rest_place.RestPlace.{RestPlace}
 use Rattle.script_model.specs.ScriptLines.{PlanRule}
 use Rattle.script_links.specs.declared.step.Step.{Step}
-use Rattle.script_links.specs.ServedScript.{PlainLink, ServedScript, no_link, link_at, with_link, is_coming, is_open_stage, is_open_at, is_fit_for_end, marks_owed_at, marks_owed, lets_some, has_bytes, is_sound_link}
+use Rattle.script_links.specs.ServedScript.{PlainLink, ServedScript, no_link, link_at, with_link, is_coming, is_open_stage, is_open_at, marks_owed_at, marks_owed, lets_some, has_bytes, is_sound_link}
 use Rattle.script_links.specs.declared.step.Step.TheVariants.{Rests}
 use Rattle.script_links.proofs.Connected.{drop_on, coming_is_there}
 use Rattle.script_links.proofs.Going.{first_is}
@@ -140,12 +140,6 @@ owed_open Coming e = absurd (true≢false (sym e))
 owed_open Open e = omega arith
 owed_open Ended e = omega arith
 owed_open Closed e = absurd (true≢false (sym e))
-
-pub owed_fit : (stage : LinkStage) → is_fit_for_end stage ≡ true → marks_owed_at stage ≡ 2
-owed_fit Coming e = absurd (true≢false (sym e))
-owed_fit Open e = refl
-owed_fit Ended e = absurd (true≢false (sym e))
-owed_fit Closed e = absurd (true≢false (sym e))
 
 -- no more rests are to come after a step, and one less after a rest
 pub rests_behind : (steps : List Step) → count_by is_rest (drop 1 steps) ≤ count_by is_rest steps

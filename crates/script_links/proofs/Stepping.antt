@@ -71,9 +71,6 @@ module _ (ask : Ask) (s : ServedScript) where
   pub rest_passes : may_rest ask s.links ≡ true → one_step ask Rests s ≡ record { came = GoesOn; left = with_rest }
   rest_passes may = ap rest_so may
 
-  pub rest_waits : may_rest ask s.links ≡ false → one_step ask Rests s ≡ record { came = Waits; left = s }
-  rest_waits may = ap rest_so may
-
 -- where no step is left
 pub ends_over : (s : ServedScript) → list_any is_open_link s.links ≡ false → next_at_end s ≡ record { came = Gives Over; left = record s { over = true } }
 ends_over s none = ap (λ b. if not b then record { came = Gives Over; left = record s { over = true } } else record { came = Waits; left = s }) none

@@ -1,12 +1,12 @@
 -- Steps of the loop over pairs of digits.
 use Rattle.std.proofs.Common.{◌≡◌, ℕ, ◌+◌, ◌*◌, ◌%◌, ◌<◌, ◌≤◌, List, [], ◌∷◌, ◌++◌, length, take, drop, nat_cmp, slice_index, slice_set, Bool, true, false, Option, Some, None, refl, sym, ap, ◌∙◌, arith}
-use Rattle.std.proofs.lemmas.List.{append_assoc, append-nil, drop_all, drop_more, take_all, take_more_set}
+use Rattle.std.proofs.lemmas.List.{append_assoc, drop_more, take_more_set}
 use Rattle.std.specs.Prelude.{max, nat_lt, option_and_then, if◌then◌else◌}
 use Rattle.std.specs.Option.{option_map}
 use Rattle.std.specs.Ordering.{ord_max}
 use Rattle.hex.specs.Hex.{hex_digit_value}
 use Rattle.text_out.specs.Hex.{pair_value, unhex_of}
-use Rattle.script_text.specs.Pairs.{no_digit, digit_worth, IsDigitWorth, where_all}
+use Rattle.script_text.specs.Pairs.{no_digit, digit_worth, IsDigitWorth}
 
 -- bytes in front of others
 abbrev pub prepend : List ℕ → Option (List ℕ) → Option (List ℕ)
@@ -83,22 +83,6 @@ pair_put s out i most high low fits room high-is low-is h l inv =
     ∙ ap (λ (n : ℕ). joined (nat_lt (max most (max (digit_worth (hex_digit_value (slice_index s (2 * i)))) n)) no_digit)
     (take i out ++ (digit_worth (hex_digit_value (slice_index s (2 * i))) % 16 * 16 + n % 16) ∷ []) rest) low-is
     ∙ sym on ∙ ap (λ (left : List ℕ). joined (nat_lt most no_digit) (take i out) (unhex_of left)) (sym (drop-pair s i fits)) ∙ inv
-
--- every byte is put
-pub all_put : (s out : List ℕ) (i most : ℕ) → length out ≤ i → length s ≤ 2 * i
-    → joined (nat_lt most no_digit) (take i out) (unhex_of (drop (2 * i) s)) ≡ unhex_of s
-    → where_all (nat_lt most no_digit) out ≡ unhex_of s
-all_put s out i most h fits inv =
-    ap (λ (bytes : List ℕ). where_all (nat_lt most no_digit) bytes) (sym (append-nil (take i out) ∙ take_all i out h))
-    ∙ ap (λ (left : List ℕ). joined (nat_lt most no_digit) (take i out) (unhex_of left)) (sym (drop_all (2 * i) s fits)) ∙ inv
-
-prepend-nothing : (rest : Option (List ℕ)) → prepend [] rest ≡ rest
-prepend-nothing None = refl
-prepend-nothing (Some bytes) = refl
-
--- no byte is put yet
-pub none_put : (s out : List ℕ) → joined (nat_lt 0 no_digit) (take 0 out) (unhex_of (drop (2 * 0) s)) ≡ unhex_of s
-none_put s out = prepend-nothing (unhex_of s)
 
 nothing : (o : Option ℕ) → option_and_then (λ (_ : ℕ). let none : Option (List ℕ) = None in none) o ≡ None
 nothing None = refl

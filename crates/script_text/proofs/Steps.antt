@@ -1,16 +1,10 @@
 -- One step of the reading, and one of the print, in memory.
-use Rattle.std.proofs.Common.{◌≡◌, ℕ, ◌+◌, ◌<◌, Bool, List, [], ◌∷◌, ◌++◌, length, get_or, set, drop, map, Result, Ok, Err, OnOk, sym, ap, ◌∙◌, append_assoc}
-use Rattle.std.proofs.lemmas.List.{map-set, get_or-map, map-append, drop_more}
-use Rattle.std.proofs.lemmas.Grind.{flat_map-append}
-use Rattle.std.specs.List.{flat_map}
-use Rattle.script_model.specs.ScriptLines.{PlanRule, one_if_opens}
+use Rattle.std.proofs.Common.{◌≡◌, ℕ, ◌+◌, ◌<◌, Bool, List, [], ◌∷◌, ◌++◌, length, get_or, set, map, Result, Ok, Err, OnOk, sym, ap, ◌∙◌}
+use Rattle.std.proofs.lemmas.List.{map-set, get_or-map, map-append}
 use Rattle.script_text.specs.declared.fault.ScriptKind.{ScriptKind}
-use Rattle.script_text.specs.declared.lines.ScriptLine.{ScriptLine as LineKept}
 use Rattle.script_text.specs.declared.lines.WriteRule.{WriteRule as RuleKept}
-use Rattle.script_text.specs.LineForms.{SaidLine}
 use Rattle.script_text.specs.Reading.{ScriptSoFar, with_rule, read_line, fault_at, reads_on, read_from}
-use Rattle.script_text.specs.Printing.{line_said, with_its_rules, said_from}
-use Rattle.script_text.specs.Plans.{plain_line, plain_rule, plain_rules}
+use Rattle.script_text.specs.Plans.{plain_rule, plain_rules}
 
 -- a line that is read
 pub passed : (workers : ℕ) (schedule : Bool) (number : ℕ) (so next : ScriptSoFar) (lines : List (List ℕ)) (line : List ℕ) (rest : List (List ℕ)) → lines ≡ line ∷ rest
@@ -37,18 +31,3 @@ rule_put rules now c old new rule within is put more =
 pub on_ok : {A E P Q : Type 0} (r : Result A E) → (P → Q) → OnOk r P → OnOk r Q
 on_ok (Ok x) f h = f h
 on_ok (Err e) f h = tt
-
--- a line printed behind those above it
-pub line_printed : (rules : List (List PlanRule)) (lines : List LineKept) (i c next : ℕ) (line : LineKept) (into new whole : List ℕ) → i < length lines → line ≡ get_or lines i line
-    → into ++ flat_map line_said (said_from c rules (map plain_line (drop i lines))) ≡ whole
-    → new ≡ into ++ flat_map line_said (with_its_rules c rules (plain_line line)) → next ≡ c + one_if_opens (plain_line line)
-    → new ++ flat_map line_said (said_from next rules (map plain_line (drop (i + 1) lines))) ≡ whole
-line_printed rules lines i c next line into new whole within is before put further =
-    let first : drop i lines ≡ line ∷ drop (i + 1) lines = drop_more lines i line within ∙ ap (λ x. x ∷ drop (i + 1) lines) (sym is) in
-    let rest : List SaidLine = said_from (c + one_if_opens (plain_line line)) rules (map plain_line (drop (i + 1) lines)) in
-    ap (λ n. new ++ flat_map line_said (said_from n rules (map plain_line (drop (i + 1) lines)))) further
-    ∙ ap (λ text. text ++ flat_map line_said rest) put
-    ∙ append_assoc into (flat_map line_said (with_its_rules c rules (plain_line line))) (flat_map line_said rest)
-    ∙ ap (λ text. into ++ text) (sym (flat_map-append line_said (with_its_rules c rules (plain_line line)) rest))
-    ∙ ap (λ left. into ++ flat_map line_said (said_from c rules (map plain_line left))) (sym first)
-    ∙ before

@@ -1,5 +1,5 @@
 -- Bytes that are counted group by group, and one count more on a tape.
-use Rattle.std.proofs.Common.{◌≡◌, ℕ, ◌+◌, ◌<◌, ◌≤◌, ◌==◌, min, List, [], ◌∷◌, length, sym, ap, ◌∙◌, arith, length-append}
+use Rattle.std.proofs.Common.{◌≡◌, ℕ, ◌+◌, ◌<◌, ◌≤◌, ◌==◌, min, List, [], length, sym, ap, ◌∙◌, arith}
 use Rattle.std.proofs.Math.Path.{fun_ext}
 use Rattle.std.specs.List.{flat_map, filter, sum_by, AllByRecursion}
 use Rattle.std.proofs.lemmas.List.Concat.{length-flat_map}
@@ -15,14 +15,6 @@ carried key f n xs all =
 pub carried_whole : {X : Type 0} (key : X → ℕ) (f : X → List ℕ) (n : ℕ) (xs : List X) → AllByRecursion (λ x. key x < n) xs
     → sum_by (λ c. length (flat_map f (filter (λ x. key x == c) xs))) (count_up 0 n) ≡ length (flat_map f xs)
 carried_whole key f n xs all = carried key f n xs all ∙ sym (length-flat_map f xs)
-
--- a count that stands still at its end, and what is counted of one item more
-pub counted_on : {X : Type 0} (f : X → List ℕ) (x : X) (old new : List X) (count more next most whole : ℕ) → old ≡ x ∷ new
-    → min (count + length (flat_map f old)) most ≡ whole → more ≡ length (f x) → next ≡ min (count + more) most
-    → min (next + length (flat_map f new)) most ≡ whole
-counted_on f x old new count more next most whole split so is counted =
-    let parts : length (flat_map f old) ≡ length (f x) + length (flat_map f new) = ap (λ xs. length (flat_map f xs)) split ∙ length-append (f x) (flat_map f new) in
-    omega (arith, parts, so, is, counted)
 
 -- nothing is left to be counted
 pub all_counted : {X : Type 0} (f : X → List ℕ) (left : List X) (count most whole : ℕ) → left ≡ [] → count ≤ most
