@@ -1,9 +1,9 @@
 //! What only files in memory show of loading: reads that fail by their numbers, and files at the root. The rest stands in rows/idl_loading.rows.
 
 use idl_include::{LoadFault, Sources, load};
-use streams::MemFiles;
 use std::alloc::{AllocError, Global};
 use std::test::Fail;
+use streams::MemFiles;
 
 /// A file's name and its text.
 type Held = (&'static str, &'static str);

@@ -1,7 +1,6 @@
 //! A table of small examples, whose expected values are worked out by hand.
 
 use host_model::Key;
-use streams::{Bytes, EnvelopeFault, Mark};
 use plain_machine::{
     Decided, PlainDesk, PlainEntry, PlainServices, after, called, entries_of, input, is_legal,
     marks_of, output, sent, split,
@@ -9,7 +8,7 @@ use plain_machine::{
 use std::alloc::{AllocError, Global};
 use std::process::Abort;
 use std::test::Fail;
-use streams::{Bytes, EnvelopeFault, Mark};
+use streams::{Bytes, Bytes, EnvelopeFault, EnvelopeFault, Mark, Mark};
 
 /// The desk of the examples: call 10 is replied to with its answer, twice, and call 11 isn't.
 struct Tiny;

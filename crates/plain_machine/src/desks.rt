@@ -6,8 +6,8 @@ ghost use Rattle.host_model.specs.Conversation.{answer_at, called, reply_for, se
 ghost use Rattle.plain_machine.specs.SeenDesk.{decision_seen, journal_seen};
 
 use crate::journals::PlainEntry;
-use streams::{Bytes, EnvelopeFault};
 use std::alloc::{AllocError, Global};
+use streams::{Bytes, EnvelopeFault};
 
 /// What is decided on a payload.
 #[derive(Drop)]

@@ -13,8 +13,8 @@ use crate::desks::{Decided, PlainDesk};
 use crate::halls::{PlainHall, PlainJobOutcome, take_first, take_out};
 use crate::workers::{PlainWorkerState, worker_at};
 use host_model::Key;
-use streams::{Bytes, Settled};
 use std::alloc::{AllocError, Global};
+use streams::{Bytes, Settled};
 
 /// A job is taken, where there is one. Tells whether the worker can take any.
 #[tactic(auto, using(crate::proofs::Seeing::takings))]

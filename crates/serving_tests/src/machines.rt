@@ -15,7 +15,6 @@ use conn_table::{Limits, Outcome};
 use envelope::Protocol;
 use host_model::EndCause;
 use house_handlers::Mirror;
-use streams::{Bytes, Mark, MarkAt, Tape};
 use plain_machine::{PlainCell, PlainConn, PlainEntry, marks_of, output};
 use processor::Office;
 use run_report::ReportedJournal;
@@ -23,6 +22,7 @@ use script_text::laws::scripts_are_sound;
 use script_text::{Script, read_script};
 use std::alloc::{AllocError, Global};
 use std::test::Fail;
+use streams::{Bytes, Mark, MarkAt, Tape};
 
 // A script, its workers, the append at which the journal fails, and the events of the run.
 type Run = (&'static [u8], u32, usize, &'static [u8]);

@@ -3,12 +3,12 @@
 ghost use Rattle.std.specs.Prelude.{◌≡◌, ◌<◌, ◌^◌};
 
 use host_model::EndCause;
-use streams::Bytes;
 use plain_machine::{
     Decided, PlainApplyResult, PlainCell, PlainConnEvent, PlainDesk, PlainEvent, PlainServices,
     run, start,
 };
 use std::alloc::{AllocError, Global};
+use streams::Bytes;
 
 // A desk with one reply.
 #[derive(Drop)]
