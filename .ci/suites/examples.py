@@ -1,8 +1,9 @@
 """The suite `examples`: the program says of each example what is kept beside it (examples/README.md).
 
-A script NAME.script comes to NAME.report, with the words in NAME.words, a line each, or else the tutorial's calculator; an IDL NAME.thrift to NAME.check;
-and one that comes after another, NAME_later.thrift, compares with that to NAME_later.compat. The status is the one in NAME.status, where there is one;
-where a comparison isn't `compatible` it is 15, and else 0."""
+A script NAME.script comes to NAME.report, with the words in NAME.words, a line each, or else the tutorial's calculator;
+an IDL NAME.thrift to NAME.check; and one that comes after another, NAME_later.thrift, compares with that to
+NAME_later.compat. The status is the one in NAME.status, where there is one; where a comparison isn't `compatible` it is
+15, and else 0."""
 import functools
 import glob
 import os

@@ -1,9 +1,10 @@
-"""test: tests the program that ./thriftd runs, in a minute, without the kit.
+"""Tests the program that ./thriftd runs, in a minute and without the kit.
 
-./test                 rows, examples, screen and scripts
-./test NAME ..         these suites, or the rows of a file (rows/words.rows)
-./test --all           everything: proofs, tests and edits by `rt ci`, then all suites by the programs that both compilers built (an hour or two)
-./test --help          this text
+./test                 runs the suites rows, examples, screen and scripts
+./test NAME ..         runs these suites, or the rows of a file (rows/words.rows)
+./test --all           runs everything, in an hour or two: proofs, tests and edits by `rt ci`, then all suites by the
+                       programs that both compilers built
+./test --help          prints this
 
   rows       each row of rows/ comes to what it says
   examples   each example of examples/ comes to what is kept beside it
@@ -11,8 +12,9 @@
   scripts    ./test and .ci/texts fail where they have to
   texts      the tree as text, by .ci/texts
 
-It takes python3, 3.9 or a later one. Where both compilers' programs were built here, and nothing has changed since, suites run both; THRIFTD names another
-program. The status is 0 where something was tested and nothing failed. The line before the last has the counts: N passed, N failed, N skipped."""
+It takes python3, 3.9 or a later one. Where both compilers' programs were built here, and nothing has changed since,
+suites run both; THRIFTD names another program. The status is 0 where something was tested and nothing failed. The line
+before the last has the counts: N passed, N failed, and behind that N skipped, where something was left out."""
 import concurrent.futures
 import os
 import sys
@@ -30,7 +32,8 @@ MOST_LINES = 100
 
 @dataclass
 class Suite:
-    """How the last line names a suite, with the number of its tests or without, and what makes these: of the paths of programs where it runs those."""
+    """How the last line names a suite, with the number of its tests or without, and what makes these: of the paths of
+    the programs where it runs those."""
 
     says: str
     tests: Callable
@@ -97,7 +100,8 @@ def show_progress(done, all_of_them):
 
 
 def run_all(tests):
-    """Runs the tests of all suites side by side, small suites first, since each of their tests takes longer. The outcomes of each suite, in order."""
+    """Runs the tests of all suites side by side, those of small suites first, since each takes longer. It returns each
+    suite's outcomes, in order."""
     pool = concurrent.futures.ThreadPoolExecutor(len(os.sched_getaffinity(0)))
     try:
         runs = {name: [pool.submit(outcome_of, test) for test in tests[name]] for name in sorted(tests, key=lambda it: len(tests[it]))}
@@ -139,7 +143,7 @@ def last_line(suites, totals, programs, is_proved):
     parts += ["left out: " + ", ".join(left_out)] if left_out else []
     if programs.name:
         parts[0] += ", by " + programs.name
-    parts.append("`rt ci` has proved them" if is_proved else "nothing was proved: ./test --all proves it, in an hour or two")
+    parts.append("everything was proved, by `rt ci`" if is_proved else "nothing was proved: ./test --all proves it, in an hour or two")
     return "; ".join(parts)
 
 

@@ -1,8 +1,9 @@
 """The suite `screen`: what README.md's first screen says to paste prints what it says.
 
-Taken are the first block that begins with `./thriftd serve` and the five behind it: what the server says, the command that calls it, the client in Python,
-the summary and the journal. They run in a folder of their own, with the program's path in place of `./thriftd`, and at a port that is free. The client's two
-calls are made as bytes too, so that the rest is seen where Apache's library isn't installed. Then each other block that begins so has to listen."""
+Taken are the first block that begins with `./thriftd serve` and the five behind it: what the server says, the command
+that calls it, the client in Python, the summary and the journal. They run in a folder of their own, with the program's
+path in place of `./thriftd`, and at a port that is free. The client's two calls are made by bytes too, so that the rest
+is seen where Apache's library isn't installed. Then each other block that begins so has to listen."""
 import contextlib
 import functools
 import os
@@ -50,9 +51,9 @@ def paste(block, program, folder, **streams):
 
 
 @contextlib.contextmanager
-def served(block, program, folder):
-    """A server, which is killed at the end, or when its time is over."""
-    server = paste(block, program, folder)
+def served(block, program, folder, **streams):
+    """A block that runs, and is killed at the end, or when its time is over."""
+    server = paste(block, program, folder, **streams)
     timer = threading.Timer(SECONDS, server.kill)
     timer.start()
     try:
@@ -60,7 +61,8 @@ def served(block, program, folder):
     finally:
         timer.cancel()
         server.kill()
-        server.communicate()
+        server.wait()
+        server.stdout.close()
 
 
 def compare(what, got, wanted):
@@ -73,17 +75,17 @@ def has_library():
     return bool(shutil.which("thrift")) and os.path.exists(words[0]) and not subprocess.run(words, stderr=subprocess.DEVNULL, check=False).returncode
 
 
-def pasted(block, program, folder, port):
+def pasted(block, program, folder):
     """What a block prints."""
-    with paste(block, program, folder, stderr=subprocess.STDOUT) as run:
-        return run.communicate(timeout=SECONDS)[0]
+    with served(block, program, folder, stderr=subprocess.STDOUT) as run:
+        return run.stdout.read()
 
 
 def called_by_library(block, program, folder, port):
     """What the client of Apache's library prints."""
     if not has_library():
         raise LeftOut(LIBRARY)
-    return pasted(block, program, folder, port)
+    return pasted(block, program, folder)
 
 
 def called_by_bytes(block, program, folder, port):
@@ -103,10 +105,10 @@ def session(says, blocks, client, program):
     serving, listening, command, calling, summary, journal = (it.replace(PORT, port) for it in blocks)
     with room() as folder, served(serving, program, folder) as server:
         compare("the server's first line", server.stdout.readline(), listening)
-        compare("what the command prints", pasted(command, program, folder, port), says[0] + "\n")
+        compare("what the command prints", pasted(command, program, folder), says[0] + "\n")
         compare("what the client prints", client(calling, program, folder, port), says[1] + "\n")
-        compare("the summary", server.communicate(timeout=SECONDS)[0], summary)
-        compare("the server's status", server.returncode, 0)
+        compare("the summary", server.stdout.read(), summary)
+        compare("the server's status", server.wait(), 0)
         name = re.search(r"--journal (\S+)", serving)[1]
         with open(os.path.join(folder, name), encoding="utf-8") as lines:
             compare(name, lines.read(), journal)

@@ -1,6 +1,7 @@
-"""The suite `scripts`: ./test and .ci/texts pass where they may, and fail where they have to, with a line that says why.
+"""The suite `scripts`: ./test and .ci/texts pass where they may, and fail where they have to and say why.
 
-Each test runs a script with programs, files of rows and commands of its own, in a copy of the scripts without the sources where it says so."""
+Each test runs a script with a program, rows or commands of its own, some in a copy of the scripts without the
+sources."""
 import functools
 import os
 import re
@@ -67,8 +68,8 @@ class Place:
         return self
 
     def wants(self, words, status, *lines):
-        """Runs a script with these words, which has to end with this status and to print lines like these; where the status isn't 0, none that says that
-        something passed."""
+        """Runs a script with these words, which has to end with this status and to print lines like these; where the
+        status isn't 0, none that says that something passed."""
         words = [os.path.join(self.top, words[0]), *words[1:]]
         done = subprocess.run(words, cwd=self.folder, env=self.settings, capture_output=True, text=True, timeout=SECONDS, check=False)
         said = done.stdout + done.stderr
@@ -82,11 +83,13 @@ class Place:
 
 
 def right_program(place):
-    place.program(RIGHT).wants(["test", place.write("a.rows", ROWS)], 0, "1 passed, 0 failed", "1 rows of a.rows: passed, by the program .*; nothing was proved.*")
+    said = "1 rows of a.rows: passed, by the program .*; nothing was proved.*"
+    place.program(RIGHT).wants(["test", place.write("a.rows", ROWS)], 0, "1 passed, 0 failed", said)
 
 
 def wrong_program(place):
-    place.program(WRONG).wants(["test", place.write("a.rows", ROWS)], 1, "a.rows: .*no such thing.*", "0 passed, 1 failed", r"failed: .*\(1 of 1\), by .*")
+    said = ["a.rows: .*no such thing.*", "0 passed, 1 failed", r"failed: a.rows \(1 of 1\), by the program .*"]
+    place.program(WRONG).wants(["test", place.write("a.rows", ROWS)], 1, *said)
 
 
 def wrong_program_in_examples(place):
@@ -124,7 +127,7 @@ def unknown_name(place):
 
 
 def no_python(place):
-    place.commands("python3").wants(["test"], 127, "test: it takes python3, .*: nothing was tested")
+    place.commands("python3").wants(["test"], 127, "0 passed, 1 failed", "test: it takes python3, .*: nothing was tested")
 
 
 def no_python_for_texts(place):
@@ -136,15 +139,15 @@ def no_repository_for_texts(place):
 
 
 def no_kit(place):
-    place.commands("rt").wants(["test", "--all"], 127, "test: --all takes the command rt of the Rattle kit, .*README.md.*")
+    place.commands("rt").wants(["test", "--all"], 127, "0 passed, 1 failed", "test: --all takes the command rt .*README.md.*")
 
 
 def failed_proof(place):
-    place.commands(rt=GONE).wants(["test", "--all"], 3, "test: rt ci failed, and nothing was run after it")
+    place.commands(rt=GONE).wants(["test", "--all"], 3, "0 passed, 1 failed", "test: rt ci failed, and nothing was run after it")
 
 
 def failed_gate(place):
-    place.commands(rt=GONE).wants([".ci/run"], 3, "test: rt ci failed, and nothing was run after it")
+    place.commands(rt=GONE).wants([".ci/run"], 3, "0 passed, 1 failed", "test: rt ci failed, and nothing was run after it")
 
 
 def proof_that_built_nothing(place):

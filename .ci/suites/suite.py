@@ -68,8 +68,9 @@ def outcome_of(test):
 
 
 def counted(*words):
-    """A test that runs a command of the tree, which counts for itself: it prints a line `N passed, N failed`, with `, N skipped` behind it or without,
-    and a line `left out: WHAT` for each thing that it skips. One that counts nothing has failed."""
+    """A test that runs a command of the tree, which counts for itself: it prints a line `N passed, N failed`, with
+    `, N skipped` behind it or without, and a line `left out: WHAT` for each thing that it skips. One that passes
+    nothing has failed."""
 
     def run():
         done = subprocess.run(words, cwd=TOP, stdin=subprocess.DEVNULL, stdout=subprocess.PIPE, stderr=subprocess.STDOUT, text=True, check=False)
@@ -120,7 +121,7 @@ def is_newest(path):
 
 
 def found_programs():
-    """The program that `./thriftd` runs, and where that was built here, the other compiler's too, where it is of these sources."""
+    """The program that `./thriftd` runs; and where that was built here, the other compiler's too, if it is as new."""
     words = {**os.environ, "THRIFTD_PATH_ONLY": "1", "THRIFTD_NO_BUILD": "1"}
     done = subprocess.run([os.path.join(TOP, "thriftd")], env=words, capture_output=True, text=True, check=False)
     path = done.stdout.rstrip("\n")
