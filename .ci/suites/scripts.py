@@ -9,6 +9,7 @@ import shutil
 import subprocess
 import sys
 import tempfile
+import time
 
 from suite import SECONDS, TOP, Found, Test
 
@@ -65,6 +66,13 @@ class Place:
         self.write("copy/rows/a.rows", ROWS)
         self.write("copy/crates.txt", "thriftd:\n")
         self.write("copy/crates/thriftd/src/main.rt", "fn main() {}\n")
+        return self
+
+    def built(self, *texts, age=0):
+        """Puts these programs where both compilers' stand, as if they were so many seconds old."""
+        for name, text in zip(("thriftd", "thriftd.by-rattle"), texts):
+            path = self.write("copy/crates/thriftd/out/" + name, text, 0o755)
+            os.utime(path, (time.time() - age,) * 2)
         return self
 
     def wants(self, words, status, *lines):
@@ -154,16 +162,23 @@ def proof_that_built_nothing(place):
     place.copied().commands(rt=PASSING).wants(["test", "--all"], 1, "test: no program was tested: there is no program crates/thriftd/out/thriftd, .*")
 
 
+def build_of_both(place):
+    place.copied().built(RIGHT, WRONG).wants(["test", "rows"], 1, "1 passed, 1 failed", "failed: .* both compilers .*")
+
+
+def old_build(place):
+    place.copied().built(RIGHT, RIGHT, age=60).wants(["test", "rows"], 1, "0 passed, 1 failed", "test: no program .*")
+
+
 def wrong_build(place):
-    built = place.copied().write("copy/crates/thriftd/out/thriftd", WRONG, 0o755)
-    shutil.copy(built, built + ".by-rattle")
+    place.copied().built(WRONG, WRONG)
     place.settings["THRIFTD"] = place.write("thriftd", RIGHT, 0o755)
     place.commands(rt=PASSING).wants(["test", "--all"], 1, "failed: .*, by the programs that both compilers built here.*")
 
 
 CASES = [right_program, wrong_program, wrong_program_in_examples, wrong_program_on_the_screen, missing_program, program_of_other_sources]
 CASES += [empty_rows, no_rows_at_all, unknown_name, no_python, no_python_for_texts, no_repository_for_texts, no_kit]
-CASES += [failed_proof, failed_gate, proof_that_built_nothing, wrong_build]
+CASES += [failed_proof, failed_gate, proof_that_built_nothing, build_of_both, old_build, wrong_build]
 
 
 def within(case):

@@ -6,8 +6,7 @@ from dataclasses import dataclass, field
 from typing import Callable, List
 
 TOP = os.path.dirname(os.path.dirname(os.path.dirname(os.path.abspath(__file__))))
-BUILT = os.path.join(TOP, "crates/thriftd/out/thriftd")
-BY_RATTLE = BUILT + ".by-rattle"
+BOTH = [os.path.join(TOP, "crates/thriftd/out", name) for name in ("thriftd", "thriftd.by-rattle")]
 COUNTED = re.compile(r"^(?:\w+: )?(\d+) passed, (\d+) failed(?:, (\d+) skipped)?$", re.MULTILINE)
 LEFT_OUT = re.compile(r"^(?:\w+: )?left out: (.*)$", re.MULTILINE)
 SECONDS = 60
@@ -107,28 +106,27 @@ def named_program(name):
 
 def both_built():
     """The programs that `rt ci` built here."""
-    for path in (BUILT, BY_RATTLE):
+    for path in BOTH:
         if not is_program(path):
             raise Unfit("there is no program %s, which `rt ci` builds" % os.path.relpath(path, TOP))
-    return Programs([BUILT, BY_RATTLE], "the programs that both compilers built here")
+    return Programs(BOTH, "the programs that both compilers built here")
 
 
-def is_newest(path):
-    """Whether a program is no older than what it is built from."""
-    folders = subprocess.run([os.path.join(TOP, ".ci/digest"), "folders"], stdout=subprocess.PIPE, text=True, check=True).stdout.split()
-    newer = subprocess.run(["find", "crates.txt", *folders, "-cnewer", path, "-print", "-quit"], cwd=TOP, stdout=subprocess.PIPE, check=True)
-    return not newer.stdout
+def are_newest(paths):
+    """Whether these programs are no older than what they are built from."""
+    digest = subprocess.run([os.path.join(TOP, ".ci/digest"), "folders"], stdout=subprocess.PIPE, text=True, check=True)
+    newer = ["-cnewer", paths[0], "-o", "-cnewer", paths[1]]
+    words = ["find", "crates.txt", *digest.stdout.split(), "(", *newer, ")", "-print", "-quit"]
+    return not subprocess.run(words, cwd=TOP, stdout=subprocess.PIPE, check=True).stdout
 
 
 def found_programs():
-    """The program that `./thriftd` runs; and where that was built here, the other compiler's too, if it is as new."""
+    """Those that both compilers built here, where nothing has changed since, or else the one that `./thriftd` runs."""
+    if all(map(is_program, BOTH)) and are_newest(BOTH):
+        return both_built()
     words = {**os.environ, "THRIFTD_PATH_ONLY": "1", "THRIFTD_NO_BUILD": "1"}
     done = subprocess.run([os.path.join(TOP, "thriftd")], env=words, capture_output=True, text=True, check=False)
     path = done.stdout.rstrip("\n")
     if done.returncode or not is_program(path):
         raise Unfit(done.stderr.strip() or "./thriftd names no program: %r" % path)
-    if path != BUILT:
-        return Programs([path], "the program in dist/")
-    if is_program(BY_RATTLE) and is_newest(BY_RATTLE):
-        return both_built()
-    return Programs([path], "the program that was built here")
+    return Programs([path], "the program that was built here" if path == BOTH[0] else "the program in dist/")
