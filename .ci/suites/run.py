@@ -6,15 +6,10 @@
                        programs that both compilers built
 ./test --help          prints this
 
-  rows       each row of rows/ comes to what it says
-  examples   each example of examples/ comes to what is kept beside it
-  screen     README.md's first screen prints what it says, at a real port
-  scripts    ./test and .ci/texts fail where they have to
-  texts      the tree as text, by .ci/texts
-
 It takes python3, 3.9 or a later one. Where both compilers' programs were built here, and nothing has changed since,
 suites run both; THRIFTD names another program. The status is 0 where something was tested and nothing failed. The line
-before the last has the counts: N passed, N failed, and behind that N skipped, where something was left out."""
+before the last has the counts: N passed, N failed, and behind that N skipped, where something was left out. The suites:
+"""
 import concurrent.futures
 import os
 import sys
@@ -32,10 +27,11 @@ MOST_LINES = 100
 
 @dataclass
 class Suite:
-    """How the last line names a suite, with the number of its tests or without, and what makes these: of the paths of
-    the programs where it runs those."""
+    """How the last line names a suite, with the number of its tests or without, what it shows, and what makes its
+    tests: of the paths of the programs where it runs those."""
 
     says: str
+    shows: str
     tests: Callable
     runs_program: bool = True
 
@@ -43,12 +39,13 @@ class Suite:
         return self.says % number if "%" in self.says else self.says
 
 
+# A suite is a line here. One that is a script of its own, as .ci/texts is, counts by itself.
 SUITES = {
-    "rows": Suite("%d rows", lambda programs: rows.tests(programs, rows.files_of_rows())),
-    "examples": Suite("%d examples", examples.tests),
-    "screen": Suite("README's first screen", screen.tests),
-    "scripts": Suite("%d tests of the scripts", scripts.tests, runs_program=False),
-    "texts": Suite("%d checks of the tree as text", lambda: [counted(".ci/texts")], runs_program=False),
+    "rows": Suite("%d rows", "each row of rows/ comes to what it says", lambda programs: rows.tests(programs, rows.files_of_rows())),
+    "examples": Suite("%d examples", "each example of examples/ comes to what is kept beside it", examples.tests),
+    "screen": Suite("README's first screen", "what README.md begins with prints what it says, at a real port", screen.tests),
+    "scripts": Suite("%d tests of the scripts", "./test and .ci/texts fail where they have to", scripts.tests, runs_program=False),
+    "texts": Suite("%d checks of the tree as text", "the tree is in order as text", lambda: [counted(".ci/texts")], runs_program=False),
 }
 USUAL = ["rows", "examples", "screen", "scripts"]
 
@@ -70,7 +67,7 @@ def chosen(words):
             stop(1, "%s is no suite and no file of rows: %s" % (word, ", ".join(SUITES)))
     if paths:
         names = ", ".join(os.path.basename(it) for it in paths)
-        suites[names] = Suite("%d rows of " + names.replace("%", "%%"), lambda programs: rows.tests(programs, paths))
+        suites[names] = Suite("%d rows of " + names.replace("%", "%%"), "", lambda programs: rows.tests(programs, paths))
     return suites
 
 
@@ -149,7 +146,7 @@ def last_line(suites, totals, programs, is_proved):
 
 def main(words):
     if words and words[0] in ("--help", "-h"):
-        print(__doc__)
+        print(__doc__, *("  %-10s %s" % (name, suite.shows) for name, suite in SUITES.items()), sep="\n")
         return 0
     is_proved = words[:1] == ["--proved"]
     suites = chosen(list(SUITES) if is_proved else words or USUAL)
