@@ -5,7 +5,6 @@ of specs/, and words that stand alone between commas, semicolons and colons (of 
 files or modules before them, or where none is, anywhere in the crate. `crate::Name` is defined in that crate. Other words are prose.
 """
 import functools
-import glob
 import os
 import re
 
@@ -28,7 +27,7 @@ def text_of(path):
 def modules():
     """Each crate's modules, with the names that are defined there."""
     found = {crate: {} for crate in CRATES}
-    for path in glob.glob("crates/*/src/**/*.rt", root_dir=specs.TOP, recursive=True):
+    for path in specs.paths("crates/*/src/**/*.rt"):
         crate, module = path.split("/")[1], path.split("/src/")[1][: -len(".rt")].removesuffix("/mod")
         if crate in found:
             found[crate][module] = {one or other for one, other in DEFINED.findall(text_of(path))}

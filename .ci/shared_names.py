@@ -4,7 +4,6 @@ Looked at are the definitions of specs/, those in modules and mutual blocks too,
 `do` needs for each kind of step. A type that contracts see as the record of its own name is no second definition.
 """
 import collections
-import glob
 import re
 
 import specs
@@ -18,7 +17,7 @@ for file in specs.files().values():
         for name in definition.names:
             if definition.is_pub and not specs.OPERATOR.match(name):
                 places[name].add(file.path)
-for path in glob.glob("crates/*/src/**/*.rt", root_dir=specs.TOP, recursive=True):
+for path in specs.paths("crates/*/src/**/*.rt"):
     with open(f"{specs.TOP}/{path}", encoding="utf-8") as it:
         text = it.read()
     for name in set(TYPE.findall(text)) - set(MODEL.findall(text)):

@@ -126,11 +126,16 @@ def crates():
     return {name: below[name] for name in order}
 
 
+def paths(pattern):
+    """The paths of the tree's files that a pattern is of, in order."""
+    return sorted(os.path.relpath(it, TOP) for it in glob.glob(f"{glob.escape(TOP)}/{pattern}", recursive=True))
+
+
 @functools.cache
 def files():
     """Each file of specs/ by crate and name, but for the lists Lib.antt."""
     found = {}
-    for path in sorted(glob.glob("crates/*/specs/*.antt", root_dir=TOP)):
+    for path in paths("crates/*/specs/*.antt"):
         if not path.endswith("/Lib.antt"):
             it = Specs(path)
             found[it.crate, it.stem] = it

@@ -11,7 +11,6 @@ import concurrent.futures
 import contextlib
 import itertools
 import os
-import runpy
 import subprocess
 import sys
 import tempfile
@@ -24,6 +23,9 @@ import rehearsal_mixes as mixes
 import rehearsal_model as model
 import unstarted_threads
 from built import TOP, built_program
+
+sys.path.append(os.path.join(TOP, ".ci/suites"))
+from rows import rows_of
 
 AT_ONCE, MOST_SECONDS = 2, 120
 LEAST = (30, 30)
@@ -143,7 +145,6 @@ def worked_scripts():
         if kind == ".script" and not os.path.exists(base + ".words"):
             with open(base + kind, "rb") as text:
                 yield text.read(), ()
-    rows_of = runpy.run_path(os.path.join(TOP, ".ci/rows"))["rows_of"]
     for text in (row.input for row in rows_of(os.path.join(TOP, "rows/record.rows")) if row.status == 0):
         yield text, ()
         yield text, LEAST
