@@ -2,7 +2,8 @@
 
 The map is a list, whose items begin with the crates that they are about. A cell is read from left to right. `crate` is one of crates.txt, and what comes after it is of that crate: words with capitals (of the column Definition) are files
 of specs/, and words that stand alone between commas, semicolons and colons (of the other columns) are modules of src/. Names in backquotes are defined in the
-files or modules before them, or where none is, anywhere in the crate. `crate::Name` is defined in that crate. Other words are prose.
+files or modules before them, or where none is, anywhere in the crate. `crate::Name` is defined in that crate. Other words are prose. Of the column Besides, what stands
+in backquotes is a path of the tree, and links lead to files and headings.
 """
 import functools
 import os
@@ -12,6 +13,7 @@ import specs
 
 DEFINED = re.compile(r"\b(?:fn|struct|enum|trait|type|const|static|mod)\s+([A-Za-z_]\w*)|^\s+([A-Z]\w*)(?=[({,])", re.M)
 FIELD = re.compile(r"^\s+(?:pub )?([A-Za-z_][\w'-]*) :", re.M)
+LINK = re.compile(r"\]\(([^)#]*)(?:#([^)]*))?\)")
 TOKEN = re.compile(r"`([^`]*)`|([;,:])|([^`;,:]+)")
 CRATES = set(specs.crates())
 KIT = {it for below in specs.crates().values() for it in below} - CRATES
@@ -83,6 +85,17 @@ def lost_of(first, rest, crates, group):
     return [it for it in (first, *rest) if re.fullmatch(r"\w+", it) and not any(is_in(crate, it) for crate in crates or CRATES)]
 
 
+def lost_paths(cell):
+    """Yields the paths and links of a cell that lead nowhere."""
+    yield from (f"`{it}`" for it in re.findall(r"`([^`]*)`", cell) if not os.path.exists(f"{specs.TOP}/{it}"))
+    for name, anchor in LINK.findall(cell):
+        path = os.path.normpath(f"docs/{name or 'ARCHITECTURE.md'}")
+        headings = re.findall(r"(?m)^#+ (.*)$", text_of(path)) if os.path.exists(f"{specs.TOP}/{path}") else None
+        slugs = [re.sub(r"[^\w -]", "", it.lower()).replace(" ", "-") for it in headings or []]
+        if headings is None or anchor and anchor not in slugs:
+            yield f"{name}#{anchor}"
+
+
 def rows(text):
     """Yields each row of a table below its head, with the head and the number of its line."""
     head = None
@@ -111,7 +124,9 @@ def faults(text):
     for number, head, cells in rows(text):
         for title, cell in zip(head, cells):
             lost = []
-            if title not in ("Rule", "Step"):
+            if title == "Besides":
+                lost = lost_paths(cell)
+            elif title not in ("Rule", "Step", "A new"):
                 lost = missing_of(cell, title == "Definition")
             yield from (f"{number}: there is no {it} ({title}: {cells[0] or cells[1]})" for it in lost)
         if head[0] == "Rule" and cells[0] in rules:
