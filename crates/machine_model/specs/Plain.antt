@@ -118,26 +118,6 @@ fails_write_plain c conn = when (not (is_empty conn.left)) (ended_plain c conn (
 abbrev pub gives_up_plain : ℕ → EndCause → LoopConn → Moved
 gives_up_plain c cause conn = when (is_given_up cause) (Some (with_cause conn cause, Closed c ∷ []))
 
--- the connection that an event is on, where it is there before
-abbrev pub conn_at : ConnEvent → Option ℕ
-conn_at opens = None
-conn_at (reads c bytes) = Some c
-conn_at (ends c) = Some c
-conn_at (fails_read c) = Some c
-conn_at (writes c count) = Some c
-conn_at (fails_write c) = Some c
-conn_at (gives_up c cause) = Some c
-
--- what it does then, where it can
-abbrev pub conn_moves : ℕ → ConnEvent → LoopConn → Moved
-conn_moves max opens conn = None
-conn_moves max (reads c bytes) conn = reads_plain max c bytes conn
-conn_moves max (ends c) conn = ends_plain c conn
-conn_moves max (fails_read c) conn = fails_read_plain c conn
-conn_moves max (writes c count) conn = writes_plain c count conn
-conn_moves max (fails_write c) conn = fails_write_plain c conn
-conn_moves max (gives_up c cause) conn = gives_up_plain c cause conn
-
 -- the loop then
 abbrev pub moved_plain : Loop → ℕ → Moved → Option Loop
 moved_plain loop c None = None

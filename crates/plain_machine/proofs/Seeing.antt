@@ -6,7 +6,7 @@ use Rattle.std.proofs.lemmas.List.{take_more, length-map, length-set, map-set, g
 use Rattle.host_model.specs.declared.cause.EndCause.{EndCause}
 use Rattle.plain_machine.specs.declared.conns.PlainConn.{PlainConn}
 use Rattle.machine_model.specs.Loop.{LoopConn, new_conn, Loop, count_if_open, open_among, with_conn, changed, ConnEvent, opens, reads, ends, fails_read, writes, fails_write, gives_up}
-use Rattle.machine_model.specs.Plain.{when, are_same, Moved, has_none_yet, is_open, reads_plain, ends_plain, fails_read_plain, writes_plain, fails_write_plain, gives_up_plain, conn_at, conn_moves, moved_plain, conn_event_plain, answers, lacks_for_answer, Told, effect_plain, take_plain, outcome_plain, put_plain, apply_result_plain, told_plain, run_plain}
+use Rattle.machine_model.specs.Plain.{when, are_same, Moved, has_none_yet, is_open, reads_plain, ends_plain, fails_read_plain, writes_plain, fails_write_plain, gives_up_plain, moved_plain, conn_event_plain, answers, lacks_for_answer, Told, effect_plain, take_plain, outcome_plain, put_plain, apply_result_plain, told_plain, run_plain}
 use Rattle.host_model.specs.Journal.{ServiceRules}
 use Rattle.host_model.specs.DeskRules.{DeskRules}
 use Rattle.std.proofs.lemmas.Option.{none-some, same_Some}
@@ -21,6 +21,7 @@ use Rattle.machine_model.specs.HallState.{Job, is_same, without}
 use Rattle.machine_model.specs.Worker.{WorkerState, idle, holds, has_answer, has_none, settled_by, settled_with, settlement, key_held}
 use Rattle.machine_model.specs.Machine.{Cell, with_worker}
 use Rattle.plain_machine.specs.Seen.{conn_of, conns_of, loop_of, worker_of, workers_of}
+use Rattle.plain_machine.specs.Happening.{conn_at, conn_moves}
 use Rattle.machine_model.proofs.Lists.{put_same, put_other}
 
 -- a function with this value in place of one

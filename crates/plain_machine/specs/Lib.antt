@@ -1,3 +1,4 @@
 pub mod SeenDesk
 pub mod Seen
 pub mod Changed
+pub mod Happening

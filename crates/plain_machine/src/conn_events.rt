@@ -2,7 +2,8 @@
 
 ghost use Rattle.std.specs.Prelude.{◌≡◌, ◌<◌, Some, length, IfOk, IsTrue, option_map};
 ghost use Rattle.machine_model.specs.Loop.{opens, open_among};
-ghost use Rattle.machine_model.specs.Plain.{when, has_none_yet, is_open, conn_at, conn_moves, conn_event_plain};
+ghost use Rattle.machine_model.specs.Plain.{when, has_none_yet, is_open, conn_event_plain};
+ghost use Rattle.plain_machine.specs.Happening.{conn_at, conn_moves};
 ghost use Rattle.plain_machine.specs.Seen.{conn_of, conns_of, loop_of, conn_event_of};
 
 use crate::conns::{PlainConn, ends, fails_read, fails_write, gives_up, reads, writes};

@@ -19,8 +19,8 @@
 //! Of a whole run there are frames (`frames`), marks on the tape (`tape`), what a desk calls and sends (`desks`), and what a
 //! journal leaves in services (`journals`). Of the machine there are its connections and what happens on them (`progress`, `conns`,
 //! `conn_events`), the hall (`halls`), workers (`workers`), what the loop and the workers ask of the hall (`rounds`, `jobs`,
-//! `calls`), and its events and runs (`cells`, `runs`). In `specs/` stands how their values are seen (`SeenDesk`, `Seen`), and what
-//! is made of a value that was changed, where that could be (`Changed`).
+//! `calls`), and its events and runs (`cells`, `runs`). In `specs/` stands how their values are seen (`SeenDesk`, `Seen`), on which
+//! connection something happens (`Happening`), and what is made of a value that was changed, where that could be (`Changed`).
 #![tactic(auto)]
 
 mod calls;
