@@ -7,8 +7,8 @@ use Rattle.host_model.specs.DeskRules.{DeskDecision, Invoke}
 use Rattle.call_rules.specs.PlainCalls.{PlainCall, PlainAnswer}
 use Rattle.call_rules.specs.Desks.{DeskMeaning, desk_rules, IsDesk}
 use Rattle.call_rules.specs.Handling.{handler_rules}
-use Rattle.machine_model.specs.HallRule.{take_job, apply, put, HallAnswer, done}
-use Rattle.machine_model.specs.Worker.{holds, took, tried, SettlesAs}
+use Rattle.machine_model.specs.HallRule.{apply, put, HallAnswer, done}
+use Rattle.machine_model.specs.Worker.{holds, tried, SettlesAs}
 use Rattle.machine_model.specs.SeenHall.{SeenGives}
 use Rattle.hall_core.specs.Meant.{ServedHall}
 use Rattle.cell_core.specs.declared.worker.Holding.{Holding}
@@ -20,12 +20,6 @@ use Rattle.cell_core.specs.TurnMoves.{MayTurn}
 use Rattle.cell_core.specs.Turns.{stepped_by, IsWorkerTurn}
 use Rattle.cell_core.proofs.Permitting.{held_short}
 use Rattle.cell_core.proofs.Replying.{settled_some}
-
--- a step that takes a job, where there is one
-pub take_turns : (desk : DeskMeaning) (old new : ServedHall) (next : Holding) (stepped : Stepped) (answer : HallAnswer PlainAnswer) → SeenGives handler_rules old take_job answer new
-    → plain_worker next ≡ took answer → stepped ≡ stepped_by take_job answer → KnowsItsCall desk next → IsWorkerTurn desk old new Idle next stepped
-take_turns desk old new next stepped answer g w s k =
-    record { op = take_job; answer = answer; in_turn = tt; gives = g; asks = (refl, w); tells = s; known = k }
 
 -- a step that applies the call of the job in the hand
 pub apply_turns : (desk : DeskMeaning) (old new : ServedHall) (worker next : Holding) (stepped : Stepped) (key : Key) (payload : List ℕ) (call : PlainCall) (answer : HallAnswer PlainAnswer)

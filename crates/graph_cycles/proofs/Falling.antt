@@ -1,9 +1,8 @@
 -- Labels that rise along no edge, and what they show.
-use Rattle.std.proofs.Common.{◌≡◌, ℕ, suc, ◌<◌, ◌≤◌, ◌+◌, Bool, true, nat_le, nat_lt, List, [], ◌∷◌, length, drop, slice_index, slice_index_or, ap, sym, subst, ◌∙◌, arith}
+use Rattle.std.proofs.Common.{◌≡◌, ℕ, ◌<◌, ◌≤◌, Bool, true, nat_le, nat_lt, List, [], ◌∷◌, slice_index, slice_index_or, ap, sym, ◌∙◌, arith}
 use Rattle.std.specs.List.{list_all, Contains}
 use Rattle.std.proofs.lemmas.List.Sums.{AllPass-from_list_all}
 use Rattle.std.proofs.lemmas.Bool.{leb-true, ltb-true}
-use Rattle.std.proofs.Math.Seq.{drop-cons}
 use Rattle.graph_cycles.specs.Walks.{Graph, IsEdge, Walk, OnCycle}
 use Rattle.graph_cycles.specs.Certified.{RisesNowhere, FallsBefore}
 
@@ -43,12 +42,3 @@ no_cycle graph labels count rises falls a within (between, walk) = by_walk betwe
         let first = lower graph labels count falls a m within walk.0 in
         let rest = walk_no_higher graph labels rises m between a walk.1 in
         omega arith
-
--- a walk that goes on from `last` goes on from the next node
-pub goes_on : (graph : Graph) (between : List ℕ) (i last start end : ℕ) → i < length between → IsEdge graph last (slice_index between i)
-    → (Walk graph last (drop i between) end → Walk graph start between end)
-    → Walk graph (slice_index between i) (drop (i + 1) between) end → Walk graph start between end
-goes_on graph between i last start end within edge so_far walk =
-    let P : List ℕ → Type 0 = λ rest. Walk graph last rest end in
-    so_far (subst P (sym (drop-cons between i 0 within ∙ ap (λ n. slice_index between i ∷ drop n between) (let e : suc i ≡ i + 1 = omega arith in e)))
-    (edge, walk))

@@ -23,18 +23,6 @@ pub record SoFar (limit i : ℕ) (join : Node → Node → Node) (p : Phrase) (s
   pub within : i ≤ limit
   pub is : repeat limit join (starts_in set) (read limit p) start ≡ map_tree (ahead join xs) (repeat (limit - i) join (starts_in set) (read limit p) left)
 
-made_nothing : (join : Node → Node → Node) (o : ParseResult) → o ≡ map_tree (ahead join []) o
-made_nothing join (done x rest) = refl
-made_nothing join (failed d rest) = refl
-
-pub begin : (limit : ℕ) (join : Node → Node → Node) (p : Phrase) (set : List Terminal) (start : List Lexeme) → SoFar limit 0 join p set start start []
-begin limit join p set start =
-    let e : limit ≡ limit - 0 = omega arith in
-    record {
-      within = omega arith;
-      is = ap (λ k. repeat k join (starts_in set) (read limit p) start) e ∙ made_nothing join (repeat (limit - 0) join (starts_in set) (read limit p) start);
-    }
-
 ahead_more : (join : Node → Node → Node) (xs : List Node) (x y : Node) → ahead join xs (join x y) ≡ ahead join (xs ++ x ∷ []) y
 ahead_more join [] x y = refl
 ahead_more join (z ∷ xs) x y = ap (join z) (ahead_more join xs x y)

@@ -1,5 +1,5 @@
 -- Links over a script that listen answer as links do.
-use Rattle.std.proofs.Common.{◌≡◌, ℕ, suc, ◌<◌, ◌≤◌, Bool, true, false, Result, Ok, Err, Some, List, [], length, refl, sym, ap, arith, true≢false, append-nil}
+use Rattle.std.proofs.Common.{◌≡◌, ℕ, suc, ◌<◌, ◌≤◌, Bool, true, false, Result, Ok, Err, Some, List, length, refl, sym, ap, arith, true≢false, append-nil}
 use Rattle.streams.specs.Cause.{Rose}
 use Rattle.streams.specs.declared.streams.Failed.{Failed}
 use Rattle.outside.specs.declared.answers.Ask.{Ask}
@@ -11,8 +11,6 @@ use Rattle.outside.specs.Asking.{OpensNext, AnswerOpens, AnswersAsk}
 use Rattle.outside.specs.Reading.{Reads}
 use Rattle.outside.specs.Writing.{WritesToConnection}
 use Rattle.outside.specs.Closing.{Closes}
-use Rattle.outside.specs.Opening.{AreFreshLinks}
-use Rattle.outside.specs.Binding.{StartListening}
 use Rattle.script_links.specs.ServedScript.{ServedScript}
 use Rattle.script_links.specs.Shown.{links_told}
 use Rattle.script_links.proofs.Connected.{open_is_there}
@@ -138,12 +136,3 @@ fails_to_answer ask l n m s e rose later = record {
 -- so many links at most stay so many
 pub still_few : (most : ℕ) (s t : ServedScript) → KeepsScript s t → length s.links ≤ most → length t.links ≤ most
 still_few most s t k few = let same : length t.links ≡ length s.links = k.count in omega arith
-
--- links that are fresh start to listen
-pub starts : (l : Listening) (s : ServedScript) → AreFreshLinks (links_told s) → StartListening (Some []) l (told_listening l 0 s)
-starts l s fresh = record {
-  fresh = record { opened = fresh.opened; none_open = fresh.none_open; over = fresh.over; tape = fresh.tape; rests = fresh.rests; lengths = fresh.lengths };
-  tape = ap Some fresh.tape;
-  listens = refl;
-  faultless = refl;
-}

@@ -25,9 +25,6 @@ use Rattle.script_model.proofs.OneEnd.{LessThanAFrame, one_end}
 module _ {C A M : Type 0} (d : DeskRules C A) (r : ServiceRules C A M) (memories : List M) (budget : ℕ) (script : ScriptPlan) (tape : List Mark)
     (journal : List (JournalEntry C A)) (causes : List EndCause) (headline : Headline d r memories tape journal causes) (fed : IsFedBy d budget script tape journal)
     (goes : (x : ℕ) → slice_get causes x ≢ Some Stopped) where
-  own : ℕ → List Mark
-  own c = marks_of c tape
-
   talked : (c : ℕ) (cause : EndCause) → slice_get causes c ≡ Some cause → Conversation d c (marks_of c tape) (entries_of c journal) cause
   talked c cause at = headline.each c cause at
 

@@ -136,9 +136,6 @@ no_rest pieces before behind e =
 
 module _ {C A M : Type 0} (d : DeskRules C A) (r : ServiceRules C A M) (memories : List M) (budget : ℕ) (pieces : List (List ℕ)) (tape : List Mark) (journal : List (JournalEntry C A))
     (cause : EndCause) (h : Headline d r memories tape journal (cause ∷ [])) (scripted : is_scripted cause ≡ true) where
-  own : List Mark
-  own = marks_of 0 tape
-
   marks : Marks 0 (marks_of 0 tape) cause
   marks = (h.each 0 cause refl).marks
 

@@ -1,5 +1,5 @@
 -- What a call may answer, where a definition says what is projected.
-use Rattle.std.specs.Prelude.{◌≡◌, ⊤, ℕ, List, [], ◌∷◌, ◌++◌, slice_set, Option, option_to_list, Result, Ok, Err, MatchResult}
+use Rattle.std.specs.Prelude.{◌≡◌, ⊤, ℕ, List, ◌++◌, slice_set, Option, option_to_list, Result, Ok, Err, MatchResult}
 use Rattle.struct_skew.specs.declared.fault.SkewFault.{SkewFault}
 use Rattle.struct_skew.specs.declared.fault.SkewFault.TheVariants.{NoMemory}
 
@@ -13,12 +13,7 @@ abbrev pub ProjectsOrNoMemory : {X Y : Type 0} → (X → Y) → Result X SkewFa
 ProjectsOrNoMemory view (Ok x) meant = meant ≡ Ok (view x)
 ProjectsOrNoMemory view (Err fault) meant = SkewsOrNoMemory fault meant
 
--- a value that was found is appended, or its fault is told
-abbrev pub Puts : {X : Type 0} → Result X SkewFault → Result ⊤ SkewFault → List X → List X → Type 0
-Puts (Ok x) out old new = MatchResult out (λ _. new ≡ old ++ x ∷ []) (λ fault. fault ≡ NoMemory)
-Puts (Err fault) out old new = out ≡ Err fault
-
--- the same of a value that may be none
+-- a value that was found, if there is one, is appended, or its fault is told
 abbrev pub PutsSome : {X : Type 0} → Result (Option X) SkewFault → Result ⊤ SkewFault → List X → List X → Type 0
 PutsSome (Ok x) out old new = MatchResult out (λ _. new ≡ old ++ option_to_list x) (λ fault. fault ≡ NoMemory)
 PutsSome (Err fault) out old new = out ≡ Err fault

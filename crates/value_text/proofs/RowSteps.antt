@@ -42,12 +42,6 @@ module _ {A : Type 0} (entry : Option A → List ℕ → Result (A × List ℕ) 
   abbrev pub AreRead : ℕ → List A → List ℕ → Type 0
   AreRead left xs rest = in_front xs (rows_at entry close left (last_of xs) rest) ≡ rows_at entry close most None text
 
-  pub begun : (left : ℕ) (xs : List A) → left ≡ most → xs ≡ [] → AreRead left xs text
-  begun left xs all none =
-      ap (λ ys. in_front ys (rows_at entry close left (last_of ys) text)) none
-      ∙ nothing_in_front (rows_at entry close left None text)
-      ∙ ap (λ n. rows_at entry close n None text) all
-
   opened : (left less : ℕ) (xs : List A) (rest : List ℕ) → left ≡ suc less
       → in_front xs (rows_at entry close left (last_of xs) rest) ≡ in_front xs (row_at entry close (last_of xs) rest >>= λ row. entries_behind row (rows_at entry close less))
   unfolding rows_at
