@@ -177,9 +177,6 @@ module _ {C A M : Type 0} (slots : ℕ) where
         memories = memories ∙ f.memories;
       }
 
-  hall_is : (old : Cell C A M) (hall : HallState C A M) → hall ≡ old.hall → Fits old → Fits (record old { hall = hall })
-  hall_is old hall e f = subst (λ h. Fits (record old { hall = h })) (sym e) f
-
   -- the connections behind a Submit, and the connection behind a Collect
   abbrev conns_then : Cell C A M → Key → ℕ → LoopConn
   conns_then old key = with_conn old.loop.conns key.c (submitted_more (old.loop.conns key.c))

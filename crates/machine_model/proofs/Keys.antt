@@ -1,6 +1,6 @@
 -- Facts about keys, and about lists of keys.
 use Rattle.std.proofs.Common.{◌≡◌, ℕ, suc, ◌+◌, ◌⊎◌, Bool, true, false, ◌||◌, ◌==◌, if◌then◌else◌, List, [], ◌∷◌, ◌++◌, map, length, refl, sym, ap, ◌∙◌, inl, inr, ⊎_elim, length-append, eq-eqb}
-use Rattle.std.proofs.lemmas.Bool.{false≢true, and_from, and_parts, or_left, or_right, or_cases, eqb-true, false_from_ne_true}
+use Rattle.std.proofs.lemmas.Bool.{false≢true, and_from, and_parts, or_left, or_right, or_cases, eqb-true}
 use Rattle.streams.specs.declared.outcomes.Settled.{Settled}
 use Rattle.host_model.specs.declared.key.Key.{Key}
 use Rattle.machine_model.specs.HallState.{key_of, is_same, Job, JobOutcome, HallState, has_key, without, keys_in}
@@ -14,16 +14,6 @@ same_key x y e =
 
 pub is_same_self : (x : Key) → is_same x x ≡ true
 is_same_self x = and_from (x.c == x.c) (x.i == x.i) (eq-eqb x.c x.c refl) (eq-eqb x.i x.i refl)
-
-pub cases_key : (x y : Key) → (x ≡ y) ⊎ (is_same x y ≡ false)
-cases_key x y = go (is_same x y) refl
-  where
-    go : (b : Bool) → is_same x y ≡ b → (x ≡ y) ⊎ (is_same x y ≡ false)
-    go true e = inl (same_key x y e)
-    go false e = inr e
-
-pub other_key : (x y : Key) → (x ≡ y → ⊥) → is_same x y ≡ false
-other_key x y n = false_from_ne_true (is_same x y) (λ e. n (same_key x y e))
 
 -- keys in lists
 pub has_left : (k : Key) (xs ys : List Key) → has_key k xs ≡ true → has_key k (xs ++ ys) ≡ true
