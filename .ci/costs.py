@@ -59,4 +59,4 @@ else:
         with open(sys.argv[2], "w", encoding="utf-8") as file:
             file.write(fresh)
     elif fresh != text or not MARK.search(text):
-        print(f"{sys.argv[2]} has other costs than crates.txt: .ci/costs.py --update {sys.argv[2]}")
+        print(f"{sys.argv[2]} has other costs than the tree: python3 .ci/costs.py --update {sys.argv[2]}")
