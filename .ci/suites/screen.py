@@ -1,7 +1,8 @@
 """The suite `screen`: what README.md's first screen says to paste prints what it says.
 
 Taken are the first block that begins with `./thriftd serve` and the five behind it: what the server says, the command
-that calls it, the client in Python, the summary and the journal. They run in a folder of their own, with the program's
+that calls it, the client in Python, the summary and the journal. Summary and journal are those of a server that ends by
+itself, with other words, as README.md says; as the block stands, it is stopped by Ctrl-C, and has neither. They run in a folder of their own, with the program's
 path in place of `./thriftd`, and at a port that is free. The client's two calls are made by bytes too, so that the rest
 is seen where Apache's library isn't installed. Then each other block that begins so has to listen."""
 import contextlib
@@ -11,6 +12,7 @@ import random
 import re
 import shlex
 import shutil
+import signal
 import socket
 import subprocess
 import tempfile
@@ -29,10 +31,12 @@ CALLS = [
 
 
 def free_port():
-    """A port that nobody listens at, below those that the system gives to others."""
+    """A port that nobody listens at, below those that the system gives to others. It is asked for by a connection, since a
+    socket that listens there may be held a moment longer by a program that another test starts."""
     for port in random.sample(range(12000, 32000), 100):
-        with contextlib.suppress(OSError), socket.create_server(("127.0.0.1", port)):
-            return str(port)
+        with socket.socket() as probe:
+            if probe.connect_ex(("127.0.0.1", port)):
+                return str(port)
     raise LeftOut("the first screen, for which no port is free")
 
 
@@ -99,16 +103,19 @@ def called_by_bytes(block, program, folder, port):
     return " ".join(answers) + "\n"
 
 
-def session(says, blocks, client, program):
-    """The server that is called by the command and by a client, up to its end."""
+def session(says, blocks, client, program, stopped=False):
+    """The server that is called by the command and by a client, up to its end, or until it is stopped by Ctrl-C."""
     port = free_port()
     serving, listening, command, calling, summary, journal = (it.replace(PORT, port) for it in blocks)
     with room() as folder, served(serving, program, folder) as server:
         compare("the server's first line", server.stdout.readline(), listening)
         compare("what the command prints", pasted(command, program, folder), says[0] + "\n")
         compare("what the client prints", client(calling, program, folder, port), says[1] + "\n")
+        if stopped:
+            compare("the server's status before Ctrl-C", server.poll(), None)
+            server.send_signal(signal.SIGINT)
         compare("the summary", server.stdout.read(), summary)
-        compare("the server's status", server.wait(), 0)
+        compare("the server's status", server.wait(), -signal.SIGINT if stopped else 0)
         name = re.search(r"--journal (\S+)", serving)[1]
         with open(os.path.join(folder, name), encoding="utf-8") as lines:
             compare(name, lines.read(), journal)
@@ -129,9 +136,15 @@ def tests(programs):
     says = re.findall(r"It prints `([^`]*)`", text)
     if not serving or len(blocks) < serving[0] + 6 or len(says) < 2:
         raise Unfit("README.md has no block that begins with %s, with the five behind it and two answers" % COMMAND)
+    few = re.search(r"Started with `([^`]*)` in place of `([^`]*)`", text)
+    if not few:
+        raise Unfit("README.md doesn't say with what the server ends by itself")
     first = blocks[serving[0] : serving[0] + 6]
+    ending = [first[0].replace(few[2], few[1]), *first[1:]]
     for program in programs:
+        name = os.path.basename(program)
+        yield Test("stopped (%s)" % name, functools.partial(session, says, [*first[:4], "", ""], called_by_bytes, program, stopped=True))
         for client in (called_by_bytes, called_by_library):
-            yield Test("%s (%s)" % (client.__name__, os.path.basename(program)), functools.partial(session, says, first, client, program))
+            yield Test("%s (%s)" % (client.__name__, name), functools.partial(session, says, ending, client, program))
         for at in serving[1:]:
-            yield Test("%s (%s)" % (blocks[at].strip(), os.path.basename(program)), functools.partial(listens, blocks[at], program))
+            yield Test("%s (%s)" % (blocks[at].strip(), name), functools.partial(listens, blocks[at], program))
