@@ -59,7 +59,8 @@ def levels_of_texts(Row):
         yield made(Row, "65 levels: " + text[:20], text, kind)
 
 
-# Texts of 65 levels whose level at fault is of another kind than those around it, or isn't whole, or stands behind another fault.
+# Texts of 65 levels: the level at fault is of another kind than those around it, or isn't whole, or stands behind
+# another fault.
 MIXED = [
     ("typedef " + "list<" * 64 + "^map>", "TooDeep"),
     ("typedef " + "list<" * 62 + "map<i32, list<^set<x>>>" + ">" * 62 + " M", "TooDeep"),

@@ -45,6 +45,6 @@ pub use desks::{Decided, PlainDesk, called, sent};
 pub use frames::split;
 pub use halls::{PlainHall, PlainJob, PlainJobOutcome};
 pub use journals::{PlainEntry, PlainServices, after, after_call, entries_of, is_legal};
-pub use runs::{run, start, step};
+pub use runs::{run, start};
 pub use tape::{input, marks_of, output};
 pub use workers::PlainWorkerState;

@@ -87,23 +87,6 @@ fn goes<D: PlainDesk, S: PlainServices<Call = D::Call, Answer = D::Answer>>(
     }
 }
 
-/// The machine after an event, where it can be; payloads of this desk have at most `max` bytes.
-pub fn step<D: PlainDesk, S: PlainServices<Call = D::Call, Answer = D::Answer>>(
-    alloc: Global,
-    max: u32,
-    desk: &D,
-    services: &S,
-    cell: PlainCell<D::Call, D::Answer, S::Memory>,
-    event: &PlainEvent,
-) -> Result<Option<PlainCell<D::Call, D::Answer, S::Memory>>, AllocError>
-    requires { max ≡ (D.desk desk.now).max }
-    ensures { IfOk result (λ next. option_map cell_of next ≡ told_plain (D.desk desk.now) (S.rules services.now) (cell_of cell) (told_of event.now)) }
-{
-    let mut cell = cell;
-    let can = goes(alloc, max, desk, services, &mut cell, event);
-    where_it_can(cell, can)
-}
-
 /// A value that was changed, where that could be.
 fn where_it_can<T: Drop>(item: T, can: Result<bool, AllocError>) -> Result<Option<T>, AllocError>
     ensures { result ≡ where_it_can item can }
