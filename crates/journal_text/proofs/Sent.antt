@@ -14,7 +14,7 @@ use Rattle.streams.specs.declared.streams.Sink.{Ghosts}
 use Rattle.journal_text.specs.contracts.segment_journal.SegmentJournal as SegmentJournal
 use Rattle.journal_text.specs.contracts.sink_journal.SinkJournal as SinkJournal
 use Rattle.journal_text.specs.contracts.spool_journal.SpoolJournal as SpoolJournal
-use Rattle.lists.proofs.appended.Appended.TheSendSync.{the_field_send as appended_send}
+use Rattle.lists.proofs.appended.Appended.TheSendSync.{the_send as appended_send}
 use Rattle.journal_text.proofs.buffered.Buffered.TheSendSync.{the_field_send as buffered_send}
 
 value_send : IsSend (Value.the_field).row

@@ -16,18 +16,18 @@
 
 pub mod examples;
 mod frames;
+mod inputs;
 pub mod law_examples;
 pub mod laws;
 mod lines;
 mod making;
 pub mod run_laws;
-mod streams;
 mod summary;
 mod testing;
 mod traffic;
 
+pub use inputs::connections_of;
 pub use making::generate;
-pub use streams::connections_of;
 pub use summary::{Summary, answer_adds, print_summary};
 pub use testing::is_calculator;
 pub use traffic::{bytes_read, bytes_written};

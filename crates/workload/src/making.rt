@@ -3,9 +3,9 @@
 ghost use Rattle.std.specs.Prelude.{◌≡◌, ◌≤◌, IfOk};
 ghost use Rattle.workload.specs.LoadPlan.{workload_plan};
 
+use crate::inputs::all_bytes;
 use crate::laws::every_workload_is_kept;
 use crate::lines::{lines_of, no_rules};
-use crate::streams::all_bytes;
 use script_text::{RuleLists, Script, ScriptLines};
 use std::alloc::{AllocError, Global};
 

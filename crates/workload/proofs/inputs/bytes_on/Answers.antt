@@ -1,5 +1,5 @@
 use Rattle.workload.proofs.Counting.{number_next, bytes_after}
-use Rattle.workload.proofs.streams.bytes_on.Goals as goal
+use Rattle.workload.proofs.inputs.bytes_on.Goals as goal
 
 pub loop-k-preserved : goal.loop-k-preserved
 loop-k-preserved c =

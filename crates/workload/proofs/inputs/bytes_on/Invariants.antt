@@ -1,7 +1,7 @@
 use Rattle.std.proofs.Common.{◌≡◌}
 use Rattle.workload.specs.Numbers.{number_at}
 use Rattle.workload.specs.LoadPlan.{bytes_on}
-use Rattle.workload.proofs.streams.bytes_on.Given as goal
+use Rattle.workload.proofs.inputs.bytes_on.Given as goal
 
 -- the number of the frame that was made last, and the bytes so far
 abbrev pub invariant-loop-k : goal.invariant-loop-k

@@ -1,7 +1,7 @@
 use Rattle.std.proofs.Common.{ap, ◌∙◌}
 use Rattle.workload.specs.LoadPlan.{connections_of, bytes_on}
 use Rattle.workload.proofs.Counting.{map_pushed}
-use Rattle.workload.proofs.streams.all_bytes.Goals as goal
+use Rattle.workload.proofs.inputs.all_bytes.Goals as goal
 
 pub loop-c-preserved : goal.loop-c-preserved
 loop-c-preserved c =
