@@ -1,5 +1,5 @@
 -- What a binder answers, and what is kept of the links that came back to it.
-use Rattle.std.specs.Prelude.{◌≡◌, ◌≢◌, ℕ, ◌≤◌, Bool, List, [], ◌∷◌, ◌++◌, Option, Some, None, Result, Err}
+use Rattle.std.specs.Prelude.{◌≡◌, ◌≢◌, ℕ, suc, ◌+◌, ◌≤◌, Bool, List, [], ◌∷◌, ◌++◌, Option, Some, None, Result, Ok, Err}
 use Rattle.streams.specs.Cause.{Rose}
 use Rattle.streams.specs.declared.marks.Mark.{Mark}
 use Rattle.outside.specs.declared.binder.BindFail.{BindFail}
@@ -37,3 +37,21 @@ pub record HasBindCause {A : Type 0} (before now : ℕ) (result : Result A BindF
   pub later : before ≤ now
   pub failed : result ≡ Err Failed → Rose before now
   pub kept : result ≢ Err Failed → now ≡ before
+
+-- how many links and pipes a binder has handed out, and how many of them have come back to it
+pub record HandedOut : Type 0 where
+  pub out : ℕ
+  pub back : ℕ
+
+-- one more is handed out where links or a pipe were made, and none where not
+abbrev pub HandsOut : {A E : Type 0} → HandedOut → HandedOut → Result A E → Type 0
+HandsOut before now (Ok _) = now ≡ record before { out = suc before.out }
+HandsOut before now (Err _) = now ≡ before
+
+-- one more has come back
+abbrev pub one_more_back : HandedOut → HandedOut
+one_more_back handed = record handed { back = suc handed.back }
+
+-- so many more were handed out, and as many more have come back
+abbrev pub handed_and_back : ℕ → HandedOut → HandedOut
+handed_and_back count handed = record { out = handed.out + count; back = handed.back + count }
