@@ -43,9 +43,13 @@ pub record HandedOut : Type 0 where
   pub out : ℕ
   pub back : ℕ
 
+-- one more was handed out
+abbrev pub one_more_out : HandedOut → HandedOut
+one_more_out handed = record handed { out = suc handed.out }
+
 -- one more is handed out where links or a pipe were made, and none where not
 abbrev pub HandsOut : {A E : Type 0} → HandedOut → HandedOut → Result A E → Type 0
-HandsOut before now (Ok _) = now ≡ record before { out = suc before.out }
+HandsOut before now (Ok _) = now ≡ one_more_out before
 HandsOut before now (Err _) = now ≡ before
 
 -- one more has come back

@@ -19,12 +19,14 @@
 mod answers;
 mod binder;
 mod gate;
+mod handed;
 mod links;
 mod pipe;
 
 pub use answers::{Ask, Hint, Taken};
 pub use binder::{BindFail, Binder};
 pub use gate::{EmptyGate, Gate};
+pub use handed::Handed;
 pub use links::{Bell, Links};
 pub use pipe::Pipe;
 pub use streams::{
