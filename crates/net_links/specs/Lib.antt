@@ -3,3 +3,4 @@ pub mod Transfers
 pub mod Settling
 pub mod Watching
 pub mod Piping
+pub mod Bound

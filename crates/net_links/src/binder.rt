@@ -4,7 +4,7 @@ ghost use Rattle.std.specs.Prelude.{◌≡◌};
 
 use crate::net_links::NetLinks;
 use crate::pipe::NetPipe;
-use outside::{BindFail, Binder};
+use outside::{BindFail, Binder, Handed};
 use std::alloc::Global;
 use std::io::ErrorKind;
 use std::marker::Model;
@@ -17,27 +17,33 @@ pub struct NetBinder<'a, N: Net> {
     net: &'a N,
     /// How many ports couldn't be listened at or dialled, and how many links and pipes came back with a fault; it stands still at its type's end.
     faults: u64,
+    /// What was handed out and has come back, for proofs alone.
+    handed: Handed,
 }
 
 impl<'a, N: Net> Model for NetBinder<'a, N> {
-    ghost use Rattle.std.specs.Prelude.{ℕ};
+    ghost use Rattle.net_links.specs.Bound.{BoundSoFar};
 
-    ghost Value = { ℕ };
+    ghost Value = { BoundSoFar };
 
-    ghost view = { λ b. b.faults };
+    ghost view = { λ b. record { faults = b.faults; handed = b.handed } };
 }
 
 impl<'a, N: Net> NetBinder<'a, N> {
     /// A binder that has bound nothing.
     pub fn new(net: &'a N) -> Self
-        ensures { result ≡ 0 }
+        ensures { result ≡ record { faults = 0; handed = record { out = 0; back = 0 } } }
     {
-        NetBinder { net, faults: 0 }
+        NetBinder {
+            net,
+            faults: 0,
+            handed: Handed::new(),
+        }
     }
 
     /// How many ports couldn't be listened at or dialled, and how many links and pipes came back with a fault.
     pub fn faults(&self) -> u64
-        ensures { result ≡ self.now }
+        ensures { result ≡ self.now.faults }
     {
         self.faults
     }
@@ -54,7 +60,9 @@ impl<'a, N: Net> Binder for NetBinder<'a, N> {
 
     ghost called = { λ _. None };
 
-    ghost faults = { λ b. b };
+    ghost faults = { λ b. b.faults };
+
+    ghost handed = { λ b. b.handed };
 
     fn tells(&self) -> bool {
         false
@@ -62,7 +70,10 @@ impl<'a, N: Net> Binder for NetBinder<'a, N> {
 
     fn listen(&mut self, alloc: Global, port: u16, accept: u32) -> Result<NetLinks, BindFail> {
         match NetLinks::new(self.net, alloc, port, accept) {
-            Ok(links) => Ok(links),
+            Ok(links) => {
+                self.handed.hand_out();
+                Ok(links)
+            }
             Err(error) if error.kind() == ErrorKind::OutOfMemory => Err(BindFail::NoMemory),
             Err(_) => {
                 self.faults = self.faults.saturating_add(1);
@@ -74,6 +85,7 @@ impl<'a, N: Net> Binder for NetBinder<'a, N> {
     fn take_back(&mut self, links: NetLinks) {
         let faults = links.net_faults();
         let_go(links);
+        self.handed.take_back();
         if faults > 0 {
             self.faults = self.faults.saturating_add(1);
         }
@@ -83,6 +95,7 @@ impl<'a, N: Net> Binder for NetBinder<'a, N> {
         match TcpStream::connect(self.net, SocketAddr::from((Ipv4Addr::LOCALHOST, port))) {
             Ok(stream) => {
                 let _ = stream.set_nodelay(true);
+                self.handed.hand_out();
                 Ok(NetPipe::over(stream, port))
             }
             Err(error) if error.kind() == ErrorKind::OutOfMemory => Err(BindFail::NoMemory),
@@ -94,6 +107,7 @@ impl<'a, N: Net> Binder for NetBinder<'a, N> {
     }
 
     fn hang_up(&mut self, pipe: NetPipe<N::Stream>) {
+        self.handed.take_back();
         if pipe.read_faults() > 0 || pipe.write_faults() > 0 {
             self.faults = self.faults.saturating_add(1);
         }

@@ -3,7 +3,7 @@
 ghost use Rattle.std.specs.Prelude.{◌≡◌, ◌≢◌, ◌↔◌, ◌≤◌, true, false, Some, [], IfOk, IsSome, IsTrue, MatchResult, Err};
 ghost use Rattle.streams.specs.Cause.{Rose, next_if_faulty};
 ghost use Rattle.outside.specs.declared.binder.BindFail.TheVariants.{Failed};
-ghost use Rattle.outside.specs.Binding.{StartListening, HasBindCause, told_past};
+ghost use Rattle.outside.specs.Binding.{StartListening, HandsOut, HasBindCause, one_more_back, told_past};
 ghost use Rattle.outside.specs.Calling.{StartsCalling, told_called, next_if_either};
 ghost use Rattle.script_links.specs.Failing.{uncalled, none_fails, fails_next};
 ghost use Rattle.script_links.specs.Followed.{AreFirstLinksOf};
@@ -12,7 +12,7 @@ ghost use Rattle.script_links.specs.Listens.{listening_told};
 ghost use Rattle.script_links.specs.Kept.{served_of, IsKeptServing};
 ghost use Rattle.script_links.specs.Shown.{links_told};
 ghost use Rattle.outside.specs.Opening.{AreFreshLinks};
-ghost use Rattle.script_links.specs.Binding.{after_binder_call, after_return, after_dial, after_hanging_up};
+ghost use Rattle.script_links.specs.Binding.{after_binder_call, after_listening, after_return, after_dial, after_hanging_up};
 
 use crate::bound::BoundLinks;
 use crate::call_list::{CallList, FailingCalls};
@@ -22,7 +22,7 @@ use crate::mem_pipe::{MemPipe, PipeReply, hung_up};
 use crate::past::{PastChain, PastRow};
 use crate::serving::ScriptServing;
 use lists::Listed;
-use outside::{BindFail, Binder};
+use outside::{BindFail, Binder, Handed};
 use script_text::Script;
 use std::alloc::{AllocError, Global};
 use std::marker::Model;
@@ -54,6 +54,8 @@ pub struct MemBinder {
     past: PastChain,
     /// The pipes that were hung up.
     called: CalledChain,
+    /// What was handed out and has come back, for proofs alone.
+    handed: Handed,
 }
 
 impl Model for MemBinder {
@@ -73,6 +75,7 @@ impl Model for MemBinder {
       faults = b.faults;
       past = past_in_chain b.past;
       called = called_in_chain b.called;
+      handed = b.handed;
     } };
 }
 
@@ -90,6 +93,7 @@ impl Drop for MemBinder {
             faults: _,
             past,
             called,
+            handed,
         } = self;
         drop(script);
         drop(calls);
@@ -99,13 +103,14 @@ impl Drop for MemBinder {
         drop(answer);
         drop(past);
         drop(called);
+        drop(handed);
     }
 }
 
 impl MemBinder {
     /// Makes a binder over this script, with the numbers of the calls to listen and to dial that are to fail, counted together; takes no memory.
     pub fn new(script: Script, fails: Vec<u64>) -> Self
-        ensures { result ≡ record { script = script; calls = uncalled fails.items; plan = none_fails; answer = no_pipe_reply; faults = 0; past = []; called = [] } }
+        ensures { result ≡ record { script = script; calls = uncalled fails.items; plan = none_fails; answer = no_pipe_reply; faults = 0; past = []; called = []; handed = record { out = 0; back = 0 } } }
     {
         MemBinder {
             script,
@@ -118,6 +123,7 @@ impl MemBinder {
             faults: 0,
             past: PastChain::Nothing,
             called: CalledChain::Nothing,
+            handed: Handed::new(),
         }
     }
 
@@ -258,6 +264,8 @@ impl Binder for MemBinder {
 
     ghost faults = { λ b. b.faults };
 
+    ghost handed = { λ b. b.handed };
+
     fn tells(&self) -> bool
         ensures { result ≡ true }
     {
@@ -268,18 +276,22 @@ impl Binder for MemBinder {
         ensures made { IfOk result (λ links. StartListening (Some self.old.past) (record { port = port; accept = accept }) (listening_told links)) }
         ensures same { Some self.new.past ≡ Some self.old.past }
         ensures called_same { Some self.new.called ≡ Some self.old.called }
+        ensures handed { HandsOut self.old.handed self.new.handed result }
         ensures cause { HasBindCause self.old.faults self.new.faults result }
         // It fails where it was told to, and nowhere else; its links are over the script's first connections, and fail where they were told to.
         ensures fails { result ≡ Err Failed ↔ IsTrue (fails_next self.old.calls) }
         ensures own { IfOk result (λ links. AreFirstLinksOf accept self.old.script links.served) }
         ensures plan { IfOk result (λ links. links.plan ≡ self.old.plan) }
-        ensures after { self.new ≡ after_binder_call self.old }
+        ensures after { MatchResult result (λ _. self.new ≡ after_listening self.old) (λ _. self.new ≡ after_binder_call self.old) }
     {
         if self.count_call() {
             return Err(BindFail::Failed);
         }
         match self.make(alloc, port, accept) {
-            Ok(links) => Ok(links),
+            Ok(links) => {
+                self.handed.hand_out();
+                Ok(links)
+            }
             Err(AllocError) => Err(BindFail::NoMemory),
         }
     }
@@ -288,6 +300,7 @@ impl Binder for MemBinder {
         requires { IsSome (listening_told links).listens }
         ensures past { Some self.new.past ≡ told_past (Some self.old.past) (listening_told links) }
         ensures called_same { Some self.new.called ≡ Some self.old.called }
+        ensures handed { self.new.handed ≡ one_more_back self.old.handed }
         ensures cause { self.new.faults ≡ next_if_faulty (listening_told links).net_faults self.old.faults }
         ensures after { self.new ≡ after_return links self.old }
     {
@@ -311,6 +324,7 @@ impl Binder for MemBinder {
                 accept,
             },
         );
+        self.handed.take_back();
         self.count_links(net_faults);
     }
 
@@ -318,6 +332,7 @@ impl Binder for MemBinder {
         ensures made { IfOk result (λ pipe. StartsCalling (Some self.old.called) port (mem_pipe_told pipe)) }
         ensures same { Some self.new.called ≡ Some self.old.called }
         ensures past_same { Some self.new.past ≡ Some self.old.past }
+        ensures handed { HandsOut self.old.handed self.new.handed result }
         ensures cause { HasBindCause self.old.faults self.new.faults result }
         // It fails where it was told to, and nowhere else; its pipe answers what was said, and fails where it was told to.
         ensures fails { result ≡ Err Failed ↔ IsTrue (fails_next self.old.calls) }
@@ -328,7 +343,10 @@ impl Binder for MemBinder {
             return Err(BindFail::Failed);
         }
         match self.answering(alloc, port) {
-            Ok(pipe) => Ok(pipe),
+            Ok(pipe) => {
+                self.handed.hand_out();
+                Ok(pipe)
+            }
             Err(AllocError) => Err(BindFail::NoMemory),
         }
     }
@@ -336,12 +354,14 @@ impl Binder for MemBinder {
     fn hang_up(&mut self, pipe: MemPipe)
         ensures called { Some self.new.called ≡ told_called (Some self.old.called) (mem_pipe_told pipe) }
         ensures past_same { Some self.new.past ≡ Some self.old.past }
+        ensures handed { self.new.handed ≡ one_more_back self.old.handed }
         ensures cause { self.new.faults ≡ next_if_either (mem_pipe_told pipe).read_faults (mem_pipe_told pipe).write_faults self.old.faults }
         ensures after { self.new ≡ after_hanging_up pipe self.old }
     {
         let (read_faults, write_faults) = (pipe.read_faults(), pipe.write_faults());
         let before = mem::replace(&mut self.called, CalledChain::Nothing);
         self.called = hung_up(pipe, before);
+        self.handed.take_back();
         self.count_pipe(read_faults, write_faults);
     }
 }

@@ -1,5 +1,6 @@
 use Rattle.std.proofs.Common.{◌≡◌, [], ◌∷◌, ◌++◌, Some, ap, ◌∙◌}
 use Rattle.streams.specs.Cause.{next_if_faulty}
+use Rattle.outside.specs.Binding.{one_more_back}
 use Rattle.script_links.specs.Listens.{ListeningScript}
 use Rattle.script_links.specs.Binding.{BinderState}
 use Rattle.script_links.specs.Past.{past_in_chain}
@@ -15,6 +16,7 @@ returns-clause-after c =
     let over : c.links.inside.serving.over ≡ c.args.links.served.over = ap (λ (l : ListeningScript). l.served.over) c.links.view_is in
     let listening : record { port = c.links.inside.port; accept = c.links.inside.accept } ≡ c.args.links.listening = ap (λ (l : ListeningScript). l.listening) c.links.view_is in
     let net : c.links.inside.net_faults ≡ c.args.links.net_faults = ap (λ (l : ListeningScript). l.net_faults) c.links.view_is in
+    let handed : c.take_back.new.self ≡ one_more_back c.args.self.now.handed = c.take_back.ensures ∙ ap (λ (b : BinderState). one_more_back b.handed) c.self.view_is in
     let whole : past_in_chain (Behind (with_value c.links.inside.room c.replace.result) (record { tape = c.tape_of-tape.result; over = c.links.inside.serving.over; port = c.links.inside.port; accept = c.links.inside.accept }))
     ≡ c.args.self.now.past ++ record { tape = c.args.links.served.tape; over = c.args.links.served.over; listening = c.args.links.listening } ∷ [] =
     past_behind (with_value c.links.inside.room c.replace.result) (record { tape = c.tape_of-tape.result; over = c.links.inside.serving.over; port = c.links.inside.port; accept = c.links.inside.accept })
@@ -27,6 +29,7 @@ returns-clause-after c =
       faults = next_if_faulty (net i) (c.self.view_is i).faults;
       past = whole i;
       called = (c.self.view_is i).called;
+      handed = handed i;
     })
 
 pub returns-clause-past : goal.returns-clause-past
@@ -37,3 +40,6 @@ returns-clause-cause c = ap (λ (b : BinderState). b.faults) (returns-clause-aft
 
 pub returns-clause-called_same : goal.returns-clause-called_same
 returns-clause-called_same c = ap (λ (b : BinderState). Some b.called) (returns-clause-after c)
+
+pub returns-clause-handed : goal.returns-clause-handed
+returns-clause-handed c = ap (λ (b : BinderState). b.handed) (returns-clause-after c)
