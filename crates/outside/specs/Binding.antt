@@ -1,5 +1,5 @@
 -- What a binder answers, and what is kept of the links that came back to it.
-use Rattle.std.specs.Prelude.{◌≡◌, ◌≢◌, ℕ, suc, ◌+◌, ◌≤◌, Bool, List, [], ◌∷◌, ◌++◌, Option, Some, None, Result, Ok, Err}
+use Rattle.std.specs.Prelude.{◌≡◌, ◌≢◌, ℕ, suc, ◌≤◌, Bool, List, [], ◌∷◌, ◌++◌, Option, Some, None, Result, Ok, Err}
 use Rattle.streams.specs.Cause.{Rose}
 use Rattle.streams.specs.declared.marks.Mark.{Mark}
 use Rattle.outside.specs.declared.binder.BindFail.{BindFail}
@@ -56,6 +56,6 @@ HandsOut before now (Err _) = now ≡ before
 abbrev pub one_more_back : HandedOut → HandedOut
 one_more_back handed = record handed { back = suc handed.back }
 
--- so many more were handed out, and as many more have come back
-abbrev pub handed_and_back : ℕ → HandedOut → HandedOut
-handed_and_back count handed = record { out = handed.out + count; back = handed.back + count }
+-- one more was handed out, and has come back
+abbrev pub there_and_back : HandedOut → HandedOut
+there_and_back handed = one_more_back (one_more_out handed)

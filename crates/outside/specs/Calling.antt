@@ -2,6 +2,7 @@
 use Rattle.std.specs.Prelude.{◌≡◌, ℕ, Bool, false, ◌||◌, nat_lt, if◌then◌else◌, List, [], ◌∷◌, ◌++◌, Option, None, Some, IfSome}
 use Rattle.streams.specs.Cause.{next_count}
 use Rattle.streams.specs.Told.{StartsEmpty}
+use Rattle.outside.specs.Binding.{HandedOut}
 use Rattle.outside.specs.Pipes.{PipeState}
 
 -- a pipe that was hung up: its port, what was written to it and what was read of it, and whether a read answered the end
@@ -10,6 +11,11 @@ pub record PastPipe : Type 0 where
   pub written : List ℕ
   pub read : List ℕ
   pub ended : Bool
+
+-- what a binder tells of calls: the pipes that were hung up, and how many links and pipes it has handed out and taken back
+pub record Dialled : Type 0 where
+  pub called : Option (List PastPipe)
+  pub handed : HandedOut
 
 -- no read has answered the end yet, and that is told where this is
 abbrev pub StartsUnended : {A : Type 0} → Option A → Option Bool → Type 0

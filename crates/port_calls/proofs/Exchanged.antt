@@ -1,8 +1,8 @@
 -- What an exchange with a port says of a call.
-use Rattle.std.proofs.Common.{◌≡◌, ℕ, suc, ◌+◌, ◌<◌, Bool, true, false, cond, is_some, MatchOption, arith, List, [], ◌∷◌, length, Option, Some, None, Result, Ok, Err, inl, inr, IsErr, refl, subst, sym}
+use Rattle.std.proofs.Common.{◌≡◌, ℕ, suc, ◌+◌, ◌<◌, Bool, true, false, cond, is_some, MatchOption, arith, List, [], ◌∷◌, length, Option, Some, None, Result, Ok, Err, inl, inr, ⊎_elim, IsErr, refl, subst, sym}
 use Rattle.std.specs.Prelude.{⊤}
 use Rattle.std.specs.List.{position_from}
-use Rattle.outside.specs.Calling.{PastPipe}
+use Rattle.outside.specs.Calling.{PastPipe, Dialled}
 use Rattle.call_model.specs.Names.{separator_of}
 use Rattle.client_desk.specs.Clients.{PlainClient}
 use Rattle.schema.specs.LookUp.{is_service_name, service_named}
@@ -10,7 +10,7 @@ use Rattle.schema.specs.PlainSchema.{PlainSchema}
 use Rattle.schema.specs.Sound.{IsPlaceIn}
 use Rattle.thrift_value.specs.Tree.{Tree}
 use Rattle.value_text.specs.Reading.{reading_of}
-use Rattle.port_calls.specs.Asked.{AskedSo, MayCome, MeansAsked}
+use Rattle.port_calls.specs.Asked.{MayCome, MayBeUndialled, PipeTells, TellsOneMore, MeansAsked}
 use Rattle.port_calls.specs.declared.asking_fault.AskingFault.{AskingFault}
 use Rattle.port_calls.specs.declared.asking_fault.AskingFault.TheVariants as asking
 use Rattle.port_calls.specs.declared.fault.CallFault.{CallFault}
@@ -28,15 +28,27 @@ came view (Ok (Some a)) = Ok (Some (view a))
 came view (Err fault) = Err fault
 
 module _ {A : Type 0} (view : A → List ℕ) (port : ℕ) (sent : List ℕ) (waits : Bool) (most : ℕ) where
-  plain_so : (before now : Option (List PastPipe)) (r : Result (Option A) AskingFault) → AskedSo view before now port sent waits most r
-      → AskedSo (λ (payload : List ℕ). payload) before now port sent waits most (came view r)
-  plain_so None now r h = h
-  plain_so (Some rows) now (Ok None) h = h
-  plain_so (Some rows) now (Ok (Some a)) h = h
-  plain_so (Some rows) now (Err asking.NetFault) h = h
-  plain_so (Some rows) now (Err asking.Cut) h = h
-  plain_so (Some rows) now (Err (asking.SizeFault z)) h = h
-  plain_so (Some rows) now (Err asking.NoMemory) h = h
+  plain_tells : (r : Result (Option A) AskingFault) (pipe : PastPipe) → PipeTells view port sent waits most r pipe
+      → PipeTells (λ (payload : List ℕ). payload) port sent waits most (came view r) pipe
+  plain_tells (Ok None) pipe h = h
+  plain_tells (Ok (Some a)) pipe h = h
+  plain_tells (Err asking.NetFault) pipe h = h
+  plain_tells (Err asking.Cut) pipe h = h
+  plain_tells (Err (asking.SizeFault z)) pipe h = h
+  plain_tells (Err asking.NoMemory) pipe h = h
+
+  plain_undialled : (r : Result (Option A) AskingFault) → MayBeUndialled r → MayBeUndialled (came view r)
+  plain_undialled (Ok None) h = h
+  plain_undialled (Ok (Some a)) h = h
+  plain_undialled (Err asking.NetFault) h = h
+  plain_undialled (Err asking.Cut) h = h
+  plain_undialled (Err (asking.SizeFault z)) h = h
+  plain_undialled (Err asking.NoMemory) h = h
+
+  plain_more : (before now : Option (List PastPipe)) (r : Result (Option A) AskingFault) → TellsOneMore before now (PipeTells view port sent waits most r)
+      → TellsOneMore before now (PipeTells (λ (payload : List ℕ). payload) port sent waits most (came view r))
+  plain_more None now r h = h
+  plain_more (Some rows) now r (pipe, is, tells) = (pipe, is, plain_tells r pipe tells)
 
   plain_comes : (r : Result (Option A) AskingFault) → MayCome view waits most r → MayCome (λ (payload : List ℕ). payload) waits most (came view r)
   plain_comes (Ok None) h = h
@@ -46,16 +58,20 @@ module _ {A : Type 0} (view : A → List ℕ) (port : ℕ) (sent : List ℕ) (wa
   plain_comes (Err (asking.SizeFault z)) h = h
   plain_comes (Err asking.NoMemory) h = h
 
-  plain_asked : (before now : Option (List PastPipe)) (r : Result (Option A) AskingFault) → MeansAsked view before now port sent waits most r
+  plain_asked : (before now : Dialled) (r : Result (Option A) AskingFault) → MeansAsked view before now port sent waits most r
       → MeansAsked (λ (payload : List ℕ). payload) before now port sent waits most (came view r)
-  plain_asked before now r m = record { comes = plain_comes r m.comes; so = plain_so before now r m.so }
+  plain_asked before now r m =
+      record {
+        comes = plain_comes r m.comes;
+        so = ⊎_elim (λ h. inl (record { once = h.once; told = plain_more before.called now.called r h.told })) (λ h. inr (h.0, plain_undialled r h.1)) m.so;
+      }
 
 module _ {A B : Type 0} (payload : A → List ℕ) (bytes : B → List ℕ) (client : PlainClient) (method : List ℕ) (e : PlainExchange) (c : CallChange) where
   abbrev Asked : Result (Option A) AskingFault → Type 0
-  Asked r = MeansAsked payload c.called_before c.called e.port e.frame e.waits longest_call r
+  Asked r = MeansAsked payload c.dialled_before c.dialled e.port e.frame e.waits longest_call r
 
-  plain : (r : Result (Option A) AskingFault) → Asked r → MeansAsked (λ (p : List ℕ). p) c.called_before c.called e.port e.frame e.waits longest_call (came payload r)
-  plain r m = plain_asked payload e.port e.frame e.waits longest_call c.called_before c.called r m
+  plain : (r : Result (Option A) AskingFault) → Asked r → MeansAsked (λ (p : List ℕ). p) c.dialled_before c.dialled e.port e.frame e.waits longest_call (came payload r)
+  plain r m = plain_asked payload e.port e.frame e.waits longest_call c.dialled_before c.dialled r m
 
   -- no answer came
   unasked : (D : Type 0) (fault : AskingFault) → Asked (Err fault) → IsOutputKept c → TellsExchange client method e c {A = D} (Err (fault_of_asking fault))

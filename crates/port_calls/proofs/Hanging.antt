@@ -4,9 +4,10 @@ use Rattle.std.specs.Prelude.{◌⊎◌, ◌||◌, nat_lt}
 use Rattle.streams.specs.Cause.{Rose, next_count}
 use Rattle.streams.specs.Content.{told_more}
 use Rattle.outside.specs.Pipes.{PipeState, told_end}
-use Rattle.outside.specs.Calling.{PastPipe, StartsCalling, called_with, told_called, next_if_either}
+use Rattle.outside.specs.Binding.{HandedOut, one_more_out, one_more_back}
+use Rattle.outside.specs.Calling.{PastPipe, Dialled, StartsCalling, called_with, told_called, next_if_either}
 use Rattle.port_calls.specs.Exchanging.{HasMoved, HasNoFault, HasMovedInPart, HasTalked}
-use Rattle.port_calls.specs.Asked.{exchanged, IsBrokenExchange, MayCome, PipeTells, HungUpOne, MeansAsked, HasAskingCause}
+use Rattle.port_calls.specs.Asked.{exchanged, IsBrokenExchange, MayCome, PipeTells, TellsOneMore, MeansAsked, HasAskingCause}
 use Rattle.port_calls.specs.declared.asking_fault.AskingFault.{AskingFault}
 use Rattle.port_calls.specs.declared.asking_fault.AskingFault.TheVariants as faults
 
@@ -22,7 +23,7 @@ told_row rows port fresh last sent read end s m =
 
 module _ {A : Type 0} (payload : A → List ℕ) (bytes : List ℕ) (waits : Bool) (most port : ℕ) where
   broken_off : (rows : List PastPipe) (now : Option (List PastPipe)) (fresh last : PipeState) → StartsCalling (Some rows) port fresh
-      → HasMovedInPart bytes waits most fresh last → now ≡ told_called (Some rows) last → HungUpOne rows now (IsBrokenExchange port bytes waits most)
+      → HasMovedInPart bytes waits most fresh last → now ≡ told_called (Some rows) last → TellsOneMore (Some rows) now (IsBrokenExchange port bytes waits most)
   broken_off rows now fresh last s m is = (
     exchanged port m.sent m.read false,
     is ∙ told_row rows port fresh last m.sent m.read false s m.moved,
@@ -30,7 +31,7 @@ module _ {A : Type 0} (payload : A → List ℕ) (bytes : List ℕ) (waits : Boo
   )
 
   told_so : (rows : List PastPipe) (now : Option (List PastPipe)) (fresh last : PipeState) (result : Result (Option A) AskingFault) → StartsCalling (Some rows) port fresh
-      → HasTalked payload bytes waits most fresh last result → now ≡ told_called (Some rows) last → HungUpOne rows now (PipeTells payload port bytes waits most result)
+      → HasTalked payload bytes waits most fresh last result → now ≡ told_called (Some rows) last → TellsOneMore (Some rows) now (PipeTells payload port bytes waits most result)
   told_so rows now fresh last (Ok None) s t is =
       (exchanged port bytes [] false, is ∙ told_row rows port fresh last bytes [] false s t.so.1, refl)
   told_so rows now fresh last (Ok (Some a)) s t is =
@@ -50,12 +51,20 @@ module _ {A : Type 0} (payload : A → List ℕ) (bytes : List ℕ) (waits : Boo
   comes_of fresh last (Err faults.NetFault) t = tt
   comes_of fresh last (Err faults.NoMemory) t = tt
 
-  -- one pipe more was hung up
-  pub hung_up : (before mid now : Option (List PastPipe)) (fresh last : PipeState) (result : Result (Option A) AskingFault) → StartsCalling before port fresh
-      → HasTalked payload bytes waits most fresh last result → mid ≡ before → now ≡ told_called mid last → MeansAsked payload before now port bytes waits most result
-  hung_up None mid now fresh last result s t same is = record { comes = comes_of fresh last result t; so = is ∙ ap (λ c. told_called c last) same }
-  hung_up (Some rows) mid now fresh last result s t same is =
-      record { comes = comes_of fresh last result t; so = inl (told_so rows now fresh last result s t (is ∙ ap (λ c. told_called c last) same)) }
+  told_where : (before mid now : Option (List PastPipe)) (fresh last : PipeState) (result : Result (Option A) AskingFault) → StartsCalling before port fresh
+      → HasTalked payload bytes waits most fresh last result → mid ≡ before → now ≡ told_called mid last → TellsOneMore before now (PipeTells payload port bytes waits most result)
+  told_where None mid now fresh last result s t same is = is ∙ ap (λ c. told_called c last) same
+  told_where (Some rows) mid now fresh last result s t same is = told_so rows now fresh last result s t (is ∙ ap (λ c. told_called c last) same)
+
+  -- one pipe was dialled and hung up
+  pub hung_up : (before mid now : Dialled) (fresh last : PipeState) (result : Result (Option A) AskingFault) → StartsCalling before.called port fresh
+      → HasTalked payload bytes waits most fresh last result → mid.called ≡ before.called → now.called ≡ told_called mid.called last
+      → mid.handed ≡ one_more_out before.handed → now.handed ≡ one_more_back mid.handed → MeansAsked payload before now port bytes waits most result
+  hung_up before mid now fresh last result s t same is out back =
+      record {
+        comes = comes_of fresh last result t;
+        so = inl (record { once = back ∙ ap one_more_back out; told = told_where before.called mid.called now.called fresh last result s t same is });
+      }
 
 or_true : (a b : Bool) → b ≡ true → (a || b) ≡ true
 or_true true b e = refl

@@ -1,7 +1,8 @@
 -- What is known of a port that was asked.
 use Rattle.std.specs.Prelude.{◌≡◌, ◌≢◌, ◌⊎◌, ⊤, ℕ, Bool, true, false, List, [], ◌∷◌, ◌++◌, Option, None, Some, Result, Ok, Err}
 use Rattle.streams.specs.Cause.{Rose}
-use Rattle.outside.specs.Calling.{PastPipe}
+use Rattle.outside.specs.Binding.{there_and_back}
+use Rattle.outside.specs.Calling.{PastPipe, Dialled}
 use Rattle.host_model.specs.Conversation.{IsPrefix}
 use Rattle.host_model.specs.Frames.{frame, size_bytes, IsPayload, IsOutside, IsPartial}
 use Rattle.port_calls.specs.declared.asking_fault.AskingFault.{AskingFault}
@@ -43,21 +44,21 @@ MayBeUndialled (Err faults.NetFault) = ⊤
 MayBeUndialled (Err faults.NoMemory) = ⊤
 MayBeUndialled _ = ⊥
 
--- one pipe more was hung up, of which this holds
-abbrev pub HungUpOne : List PastPipe → Option (List PastPipe) → (PastPipe → Type 0) → Type 0
-HungUpOne before now P = (pipe : PastPipe) × (now ≡ Some (before ++ pipe ∷ [])) × P pipe
+-- one pipe more was hung up, of which this holds, where the pipes are told
+abbrev pub TellsOneMore : Option (List PastPipe) → Option (List PastPipe) → (PastPipe → Type 0) → Type 0
+TellsOneMore None now P = now ≡ None
+TellsOneMore (Some before) now P = (pipe : PastPipe) × (now ≡ Some (before ++ pipe ∷ [])) × P pipe
 
--- what was hung up, where that is told
-abbrev pub AskedSo : {A : Type 0} → (A → List ℕ) → Option (List PastPipe) → Option (List PastPipe) → ℕ → List ℕ → Bool → ℕ → Result (Option A) AskingFault → Type 0
-AskedSo payload None now port sent waits most result = now ≡ None
-AskedSo payload (Some before) now port sent waits most result =
-    HungUpOne before now (PipeTells payload port sent waits most result) ⊎ ((now ≡ Some before) × MayBeUndialled result)
+-- one pipe was dialled and hung up again, of which this holds, where that is told; nothing else was dialled
+pub record HungUpOne (before now : Dialled) (P : PastPipe → Type 0) : Type 0 where
+  pub once : now.handed ≡ there_and_back before.handed
+  pub told : TellsOneMore before.called now.called P
 
--- A port was asked: these bytes were sent to it, and an answer of 1 to most bytes is awaited or isn't. Where it is told which pipes were hung up, one more was, to that port,
--- and what was written to it and read of it says just what came of it; only where the net failed or memory ran out, there may be none.
-pub record MeansAsked {A : Type 0} (payload : A → List ℕ) (before now : Option (List PastPipe)) (port : ℕ) (sent : List ℕ) (waits : Bool) (most : ℕ) (result : Result (Option A) AskingFault) : Type 0 where
+-- A port was asked: these bytes were sent to it, and an answer of 1 to most bytes is awaited or isn't. One pipe was dialled, to that port, and hung up, and what was
+-- written to it and read of it says just what came of it; only where the net failed or memory ran out, there may be none.
+pub record MeansAsked {A : Type 0} (payload : A → List ℕ) (before now : Dialled) (port : ℕ) (sent : List ℕ) (waits : Bool) (most : ℕ) (result : Result (Option A) AskingFault) : Type 0 where
   pub comes : MayCome payload waits most result
-  pub so : AskedSo payload before now port sent waits most result
+  pub so : HungUpOne before now (PipeTells payload port sent waits most result) ⊎ ((now ≡ before) × MayBeUndialled result)
 
 -- the net is said to have failed only where the count of faults rose, and with any other answer it is as before
 pub record HasAskingCause {A : Type 0} (before now : ℕ) (result : Result A AskingFault) : Type 0 where

@@ -1,6 +1,6 @@
 -- What an answer says of the pipe and of the output.
 use Rattle.std.specs.Prelude.{◌≡◌, ◌⊎◌, ℕ, List, Option, None, Some, Result, Ok, Err}
-use Rattle.outside.specs.Calling.{PastPipe}
+use Rattle.outside.specs.Calling.{Dialled}
 use Rattle.streams.specs.Content.{told_more}
 use Rattle.streams.specs.Taken.{IsTakenInPart}
 use Rattle.client_desk.specs.declared.heard_fault.HeardFault.{HeardFault}
@@ -15,10 +15,10 @@ use Rattle.port_calls.specs.declared.fault.ReplyRefusal.TheVariants.{Cut, SizeFa
 use Rattle.port_calls.specs.Calls.{PlainPortCall, IsSent, IsCallRefused, caller, call_id, longest_call, waits_for}
 use Rattle.port_calls.specs.HeardText.{heard_line, sent_line}
 
--- what a call found and left: the pipes that were hung up, and what the output had taken
+-- what a call found and left: what was dialled, and what the output had taken
 pub record CallChange : Type 0 where
-  pub called_before : Option (List PastPipe)
-  pub called : Option (List PastPipe)
+  pub dialled_before : Dialled
+  pub dialled : Dialled
   pub taken_before : Option (List ℕ)
   pub taken : Option (List ℕ)
 
@@ -28,12 +28,12 @@ IsOutputKept c = c.taken ≡ c.taken_before
 
 -- nothing was dialled, and nothing written
 abbrev pub IsCallUntouched : CallChange → Type 0
-IsCallUntouched c = (c.called ≡ c.called_before) × IsOutputKept c
+IsCallUntouched c = (c.dialled ≡ c.dialled_before) × IsOutputKept c
 
 module _ (a : PlainPortCall) (c : CallChange) where
   -- the frame went out through one pipe, and this came back
   abbrev pub IsAsked : IsSent a → Result (Option (List ℕ)) AskingFault → Type 0
-  IsAsked sent came = MeansAsked (λ (payload : List ℕ). payload) c.called_before c.called a.port sent.frame (waits_for a.schema sent.service a.method) longest_call came
+  IsAsked sent came = MeansAsked (λ (payload : List ℕ). payload) c.dialled_before c.dialled a.port sent.frame (waits_for a.schema sent.service a.method) longest_call came
 
   -- a payload answers the call so
   abbrev pub IsHeard : IsSent a → List ℕ → Result PlainHeard HeardFault → Type 0
@@ -65,7 +65,7 @@ module _ (a : PlainPortCall) (c : CallChange) where
   MeansCallFault (ReplyRefused refusal) = IsUnanswered refusal × IsOutputKept c
   MeansCallFault WriteFault = (line : List ℕ) × IsCallAnswered line × IsTakenInPart c.taken_before c.taken line
   MeansCallFault NoMemory =
-      IsOutputKept c × ((c.called ≡ c.called_before) ⊎ ((sent : IsSent a) × (came : Result (Option (List ℕ)) AskingFault) × IsAsked sent came))
+      IsOutputKept c × ((c.dialled ≡ c.dialled_before) ⊎ ((sent : IsSent a) × (came : Result (Option (List ℕ)) AskingFault) × IsAsked sent came))
 
   -- what a result says: the call was made and answered, and the line that tells so was written
   abbrev pub MeansCall : {A : Type 0} → Result A CallFault → Type 0

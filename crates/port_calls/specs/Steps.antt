@@ -73,7 +73,7 @@ pub record PlainExchange : Type 0 where
 module _ (client : PlainClient) (method : List ℕ) (e : PlainExchange) (c : CallChange) where
   -- the frame went out through one pipe, and this came back
   abbrev pub IsExchanged : Result (Option (List ℕ)) AskingFault → Type 0
-  IsExchanged came = MeansAsked (λ (payload : List ℕ). payload) c.called_before c.called e.port e.frame e.waits longest_call came
+  IsExchanged came = MeansAsked (λ (payload : List ℕ). payload) c.dialled_before c.dialled e.port e.frame e.waits longest_call came
 
   -- this line tells what came back
   pub record IsTold (line : List ℕ) : Type 0 where

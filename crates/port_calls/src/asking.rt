@@ -27,7 +27,10 @@ pub fn ask_port<B: Binder>(
     most: u32,
 ) -> Result<Option<Vec<u8>>, AskingFault>
     requires { most < 2 ^ 31 }
-    ensures called { MeansAsked (λ v. v.items) (B.called binder.old) (B.called binder.new) port frame.now waits most result }
+    ensures called { MeansAsked (λ v. v.items)
+        (record { called = B.called binder.old; handed = B.handed binder.old })
+        (record { called = B.called binder.new; handed = B.handed binder.new })
+        port frame.now waits most result }
     ensures past { B.past binder.new ≡ B.past binder.old }
     ensures cause { HasAskingCause (B.faults binder.old) (B.faults binder.new) result }
 {

@@ -182,8 +182,8 @@ fn ask_and_tell<B: Binder, K: Sink>(
     ensures tells { TellsExchange (plain_client client.now) call.now.method.now
         (record { port = call.now.port; frame = frame.now; waits = waits })
         (record {
-          called_before = B.called binder.old;
-          called = B.called binder.new;
+          dialled_before = record { called = B.called binder.old; handed = B.handed binder.old };
+          dialled = record { called = B.called binder.new; handed = B.handed binder.new };
           taken_before = K.taken output.old;
           taken = K.taken output.new;
         }) result }
@@ -217,8 +217,8 @@ fn call_service<B: Binder, K: Sink>(
     requires service { service_known (schema_of schema) call.now.name.now ≡ Some service }
     ensures means { MeansCall (plain_port_call (schema_of schema) call.now)
         (record {
-          called_before = B.called binder.old;
-          called = B.called binder.new;
+          dialled_before = record { called = B.called binder.old; handed = B.handed binder.old };
+          dialled = record { called = B.called binder.new; handed = B.handed binder.new };
           taken_before = K.taken output.old;
           taken = K.taken output.new;
         }) result }
@@ -252,8 +252,8 @@ pub fn call_port<B: Binder, K: Sink>(
     // Ok says that the frame of the call was sent through one pipe, and that the line of the one frame that was read there, or of a call to which nothing is answered, was written.
     ensures means { MeansCall (plain_port_call (schema_of schema) call.now)
         (record {
-          called_before = B.called binder.old;
-          called = B.called binder.new;
+          dialled_before = record { called = B.called binder.old; handed = B.handed binder.old };
+          dialled = record { called = B.called binder.new; handed = B.handed binder.new };
           taken_before = K.taken output.old;
           taken = K.taken output.new;
         }) result }
