@@ -16,7 +16,7 @@ ends_asked words command handlers ended c dialled e n is h = subst (λ w. EndsCo
 
 -- a check, whose name was lent
 pub ends_check : (idl lent : List ℕ) (handlers : List ServiceState) (ended : Status) (c : HostChange) (dialled : CallChange) (e : Errors) (n : HostCounts) → lent ≡ idl
-    → MeansCheck c.place.files_before lent ended c.streams → SaysCheck c.place.files_before lent ended e → IsPlaceKept c.place → dialled.called ≡ dialled.called_before
+    → MeansCheck c.place.files_before lent ended c.streams → SaysCheck c.place.files_before lent ended e → IsPlaceKept c.place → dialled.dialled ≡ dialled.dialled_before
     → CountsTell n ended → EndsCommand (Some (checks idl)) handlers ended c dialled e n
 ends_check idl lent handlers ended c dialled e n same means says place called counts =
     record {

@@ -1,6 +1,7 @@
 -- What a call means by how it ends.
-use Rattle.std.proofs.Common.{◌≡◌, inl, inr, ℕ, List, Option, None, Some, Result, Ok, Err, sym, subst}
+use Rattle.std.proofs.Common.{◌≡◌, ap, inl, inr, ℕ, List, Option, None, Some, Result, Ok, Err, sym, subst}
 use Rattle.streams.specs.Files.{File}
+use Rattle.outside.specs.Calling.{Dialled}
 use Rattle.schema.specs.PlainSchema.{PlainSchema}
 use Rattle.idl_check.specs.declared.refusal.NoSchema.{NoSchema}
 use Rattle.idl_check.specs.declared.refusal.NoSchema.TheVariants as reasons
@@ -85,7 +86,7 @@ memory_called (Some (checks idl)) files c e same said = same.0
 memory_called (Some (compares old new)) files c e same said = same.0
 memory_called (Some (rehearses says)) files c e same said = same.0
 memory_called (Some (records says)) files c e same said = same.0
-memory_called (Some (serves says port accept journal)) files c e same said = same.0
+memory_called (Some (serves says port accept journal)) files c e same said = ap (λ (d : Dialled). d.called) same.0
 memory_called (Some (runs seed size workers)) files c e same said = same.0
 memory_called (Some (calls asked)) files c e same said = (inl same, said)
 memory_called None files c e same said = same.0

@@ -45,10 +45,12 @@ Means (Some (runs seed size workers)) handlers status c = MeansWorkload (asked_w
 Means (Some (calls asking)) handlers status c = c.streams.left ≡ c.streams.left_before
 Means _ handlers status c = MeansUsage status c.streams
 
--- What a status says of the pipes that were hung up: of a call its output and its errors' line belong to that. No other command dials a port.
+-- What a status says of the ports that were dialled and listened at: of a call its output and its errors' line belong to that. Serving dials no port, and any other
+-- command neither dials nor listens.
 abbrev pub MeansCalled : Option PlainCommand → Option (List File) → Status → CallChange → Errors → Type 0
 MeansCalled (Some (calls asking)) files status c e = MeansPortCall files asking status c e
-MeansCalled _ files status c e = c.called ≡ c.called_before
+MeansCalled (Some (serves says port accept journal)) files status c e = c.dialled.called ≡ c.dialled_before.called
+MeansCalled _ files status c e = c.dialled ≡ c.dialled_before
 
 -- All commands but `serve` leave the files as they were, and no links come back to the binder.
 abbrev pub KeepsPlace : Option PlainCommand → PlaceChange → Type 0

@@ -30,7 +30,12 @@ pub(crate) fn call<F: Files, K: Sink, E: Sink, B: Binder>(
     asked: &AskedCall,
 ) -> Status
     ensures means { MeansPortCall (F.files files.old) (plain_asking asked.now) result
-        (record { called_before = B.called binder.old; called = B.called binder.new; taken_before = K.taken output.old; taken = K.taken output.new })
+        (record {
+          dialled_before = record { called = B.called binder.old; handed = B.handed binder.old };
+          dialled = record { called = B.called binder.new; handed = B.handed binder.new };
+          taken_before = K.taken output.old;
+          taken = K.taken output.new;
+        })
         (record { taken_before = E.taken errors.old; taken = E.taken errors.new; faults_before = E.faults errors.old; faults = E.faults errors.new }) }
     ensures files { F.files files.new ≡ F.files files.old }
     ensures sinks { F.sink_faults files.new ≡ F.sink_faults files.old }
@@ -59,7 +64,12 @@ fn call_with_schema<K: Sink, E: Sink, B: Binder>(
 ) -> Status
     requires { IsSound (schema_of schema) }
     ensures ends { EndsCall (port_call_by (plain_asking asked.now) (schema_of schema)) result
-        (record { called_before = B.called binder.old; called = B.called binder.new; taken_before = K.taken output.old; taken = K.taken output.new })
+        (record {
+          dialled_before = record { called = B.called binder.old; handed = B.handed binder.old };
+          dialled = record { called = B.called binder.new; handed = B.handed binder.new };
+          taken_before = K.taken output.old;
+          taken = K.taken output.new;
+        })
         (record { taken_before = E.taken errors.old; taken = E.taken errors.new; faults_before = E.faults errors.old; faults = E.faults errors.new }) }
     ensures past { B.past binder.new ≡ B.past binder.old }
     ensures no_file_fault { result ≢ Status.FileFault }

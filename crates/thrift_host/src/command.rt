@@ -87,7 +87,12 @@ pub fn host<
     ensures place { KeepsPlace (words_of (map string_bytes words.now))
         (place_change (F.files files.old) (F.files files.new) (F.sink_faults files.old) (F.sink_faults files.new) (B.past binder.old) (B.past binder.new)) }
     ensures called { MeansCalled (words_of (map string_bytes words.now)) (F.files files.old) result
-        (record { called_before = B.called binder.old; called = B.called binder.new; taken_before = K.taken output.old; taken = K.taken output.new })
+        (record {
+          dialled_before = record { called = B.called binder.old; handed = B.handed binder.old };
+          dialled = record { called = B.called binder.new; handed = B.handed binder.new };
+          taken_before = K.taken output.old;
+          taken = K.taken output.new;
+        })
         (record { taken_before = E.taken errors.old; taken = E.taken errors.new; faults_before = E.faults errors.old; faults = E.faults errors.new }) }
     ensures file_fault { result ≡ Status.FileFault → Rose (F.faults files.old) (F.faults files.new) }
     ensures read_fault { result ≡ Status.ReadFault → Rose (S.faults input.old) (S.faults input.new) }
@@ -150,7 +155,12 @@ fn command_of<
     ensures { EndsCommand (words_of (map string_bytes words.now)) (map H.service handlers.items) result
         (host_change (S.left input.old) (S.left input.new) (K.taken output.old) (K.taken output.new)
         (place_change (F.files files.old) (F.files files.new) (F.sink_faults files.old) (F.sink_faults files.new) (B.past binder.old) (B.past binder.new)))
-        (record { called_before = B.called binder.old; called = B.called binder.new; taken_before = K.taken output.old; taken = K.taken output.new })
+        (record {
+          dialled_before = record { called = B.called binder.old; handed = B.handed binder.old };
+          dialled = record { called = B.called binder.new; handed = B.handed binder.new };
+          taken_before = K.taken output.old;
+          taken = K.taken output.new;
+        })
         (record { taken_before = E.taken errors.old; taken = E.taken errors.new; faults_before = E.faults errors.old; faults = E.faults errors.new })
         (record {
           files_before = F.faults files.old;

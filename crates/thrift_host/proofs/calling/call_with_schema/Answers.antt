@@ -9,8 +9,8 @@ pub returns-clause-ends : goal.returns-clause-ends
 returns-clause-ends g c =
     let change : CallChange =
     (record {
-      called_before = g.B.Binder.called c.args.binder.now;
-      called = g.B.Binder.called c.call_port-came_to.new.binder;
+      dialled_before = record { called = g.B.Binder.called c.args.binder.now; handed = g.B.Binder.handed c.args.binder.now };
+      dialled = record { called = g.B.Binder.called c.call_port-came_to.new.binder; handed = g.B.Binder.handed c.call_port-came_to.new.binder };
       taken_before = g.K.Sink.taken c.args.output.now;
       taken = g.K.Sink.taken c.call_port-came_to.new.output;
     })
