@@ -72,7 +72,8 @@ fn handlers(alloc: Global) -> Result<Vec<Box<dyn Handler>>, AllocError> {
 
 /// Adds a handler to these.
 fn add(handlers: &mut Vec<Box<dyn Handler>>, handler: Box<dyn Handler>) -> Result<(), AllocError> {
-    handlers.push(handler)
+    handlers.push(handler)?;
+    Ok(())
 }
 
 /// Runs the command of these words with these handlers, on the system's files, the standard streams and the ports of the loopback address.
