@@ -8,7 +8,7 @@ use plain_machine::{
 use std::alloc::{AllocError, Global};
 use std::process::Abort;
 use std::test::Fail;
-use streams::{Bytes, Bytes, EnvelopeFault, EnvelopeFault, Mark, Mark};
+use streams::{Bytes, EnvelopeFault, Mark};
 
 /// The desk of the examples: call 10 is replied to with its answer, twice, and call 11 isn't.
 struct Tiny;

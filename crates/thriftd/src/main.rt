@@ -6,7 +6,7 @@ use call_rules::Handler;
 use house_handlers::{Mirror, Store};
 use net_links::NetBinder;
 use outside::EmptyGate;
-use std::alloc::{AllocError, Global};
+use std::alloc::AllocError;
 use std::fs::{self, File};
 use std::io::ErrorKind;
 use std::net::Net;
@@ -58,21 +58,18 @@ fn run<R: Threads + Wait + Net + Sync>(
     handle: &R,
     words: &[String],
 ) -> Result<Status, AllocError> {
-    Ok(run_with(rt, handle, words, handlers(rt.alloc())?))
-}
-
-/// The handlers that there are.
-fn handlers(alloc: Global) -> Result<Vec<Box<dyn Handler>>, AllocError> {
+    let alloc = rt.alloc();
     let mut handlers: Vec<Box<dyn Handler>> = Vec::new(alloc);
     add(&mut handlers, Box::new(alloc, Calculator::new(alloc))?)?;
     add(&mut handlers, Box::new(alloc, Store::new(alloc))?)?;
     add(&mut handlers, Box::new(alloc, Mirror::new())?)?;
-    Ok(handlers)
+    Ok(run_with(rt, handle, words, handlers))
 }
 
 /// Adds a handler to these.
 fn add(handlers: &mut Vec<Box<dyn Handler>>, handler: Box<dyn Handler>) -> Result<(), AllocError> {
-    handlers.push(handler)
+    handlers.push(handler)?;
+    Ok(())
 }
 
 /// Runs the command of these words with these handlers, on the system's files, the standard streams and the ports of the loopback address.
