@@ -1,5 +1,8 @@
 //! What the tests share: the command, run over files and streams in memory.
 
+ghost use Rattle.std.specs.Prelude.{◌≡◌, IfOk};
+ghost use Rattle.script_links.specs.Failing.{none_fails};
+
 use calculator::Calculator;
 use call_rules::Handler;
 use house_handlers::{Mirror, Store};
@@ -181,7 +184,9 @@ impl<'a> Given<'a> {
     }
 
     /// Links over a script, in place of a port.
-    fn links_of(self, alloc: Global) -> Result<MemBinder, AllocError> {
+    fn links_of(self, alloc: Global) -> Result<MemBinder, AllocError>
+        ensures { IfOk result (λ binder. binder.plan ≡ none_fails) }
+    {
         match read_script(alloc, self.port, 0, false) {
             Ok(script) => Ok(MemBinder::new(script, self.fails_of(alloc, Called::Listen))),
             Err(_) => Err(AllocError),

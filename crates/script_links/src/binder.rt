@@ -127,8 +127,10 @@ impl MemBinder {
         }
     }
 
-    /// The same binder, on whose links these reads and writes of connection `c` fail, by their numbers from 0; no other reads and writes do. Takes no memory.
+    /// The same binder, on whose links these reads and writes of connection `c` fail, by their numbers from 0; no other reads and writes do, so this is said once. Takes
+    /// no memory.
     pub fn with_link_fails(self, c: u32, reads: Vec<u64>, writes: Vec<u64>) -> MemBinder
+        requires once { (self.plan.reads ≡ uncalled []) × (self.plan.writes ≡ uncalled []) }
         ensures { result ≡ record self { plan = record self.plan { conn = c; reads = uncalled reads.items; writes = uncalled writes.items } } }
     {
         let mut binder = self;
