@@ -1,0 +1,34 @@
+-- What one more item adds.
+use Rattle.std.proofs.Common.{◌≡◌, ℕ, Bool, List, [], ◌∷◌, ◌++◌, Option, Some, None, refl, ap, ◌∙◌}
+use Rattle.std.specs.Prelude.{map, IsSome}
+use Rattle.std.proofs.lemmas.List.{map-append, append-nil}
+use Rattle.std.proofs.lemmas.List.Folds.{concat-append}
+use Rattle.streams.specs.declared.marks.Mark.{Mark}
+use Rattle.outside.specs.LinksState.{Listening, LinksState}
+use Rattle.outside.specs.Pipes.{PipeState}
+use Rattle.outside.specs.Binding.{PastLinks, past_with, told_past}
+use Rattle.outside.specs.Calling.{PastPipe, told_called}
+use Rattle.told_links.specs.Noted.{bytes_noted}
+use Rattle.told_links.specs.Telling.{told_links, told_pipe, past_of, call_of, place_of}
+
+pub bytes_added : (old new : List (List ℕ)) (piece : List ℕ) → new ≡ old ++ piece ∷ [] → bytes_noted new ≡ bytes_noted old ++ piece
+bytes_added old new piece more =
+    ap bytes_noted more ∙ concat-append old (piece ∷ []) ∙ ap (λ (t : List ℕ). bytes_noted old ++ t) (append-nil piece)
+
+past_told : (past : List PastLinks) (over : Bool) (tape : List Mark) (listens : Option Listening) → IsSome listens
+    → Some (past ++ record { tape = tape; over = over; listening = place_of listens } ∷ []) ≡ past_with past over (Some tape) listens
+past_told past over tape None h = absurd cc
+past_told past over tape (Some listening) h = refl
+
+-- the links came back, each of which is seen so
+pub past_added : {A : Type 0} (seen : A → PastLinks) (old new : List A) (links : A) (inner : LinksState) (tape : List Mark) → new ≡ old ++ links ∷ [] → seen links ≡ past_of inner tape → IsSome inner.listens
+    → Some (map seen new) ≡ told_past (Some (map seen old)) (told_links inner tape)
+past_added {A = A} seen old new links inner tape more is there =
+    ap (λ (all : List A). Some (map seen all)) more ∙ ap Some (map-append seen old (links ∷ [])) ∙ ap (λ (one : PastLinks). Some (map seen old ++ one ∷ [])) is
+    ∙ past_told (map seen old) inner.over tape inner.listens there
+
+-- the pipe was hung up, and each is seen so
+pub call_added : {A : Type 0} (seen : A → PastPipe) (old new : List A) (pipe : A) (inner : PipeState) (written given : List ℕ) (ended : Bool) → new ≡ old ++ pipe ∷ [] → seen pipe ≡ call_of inner written given ended
+    → Some (map seen new) ≡ told_called (Some (map seen old)) (told_pipe inner written given ended)
+call_added {A = A} seen old new pipe inner written given ended more is =
+    ap (λ (all : List A). Some (map seen all)) more ∙ ap Some (map-append seen old (pipe ∷ [])) ∙ ap (λ (one : PastPipe). Some (map seen old ++ one ∷ [])) is

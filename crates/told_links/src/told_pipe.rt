@@ -1,0 +1,87 @@
+//! A pipe over another pipe.
+
+ghost use Rattle.std.specs.Prelude.{◌≡◌, refl};
+
+use crate::noting::note_bytes;
+use lists::{Appended, NotedBytes};
+use outside::Pipe;
+use std::marker::Model;
+use streams::{Failed, Sink, Source};
+
+/// A pipe that passes each call on, and tells what was written and what was read.
+#[derive(Drop)]
+pub struct ToldPipe<P: Pipe> {
+    pub(crate) inner: P,
+    // What was written, for proofs alone.
+    pub(crate) written: Appended<NotedBytes>,
+    // What was read, for proofs alone.
+    pub(crate) given: Appended<NotedBytes>,
+    // Whether a read has answered the end.
+    pub(crate) ended: bool,
+}
+
+impl<P: Pipe> Model for ToldPipe<P> {
+    ghost use Rattle.told_links.specs.Shown.{ToldTalk};
+    ghost use Rattle.told_links.specs.Noted.{bytes_noted};
+
+    ghost Value = { ToldTalk P };
+
+    ghost view = { λ p. record { inner = p.inner; written = bytes_noted p.written; given = bytes_noted p.given; ended = p.ended } };
+}
+
+impl<P: Pipe> Source for ToldPipe<P> {
+    ghost use Rattle.std.specs.Prelude.{Some, None};
+
+    ghost given = { λ p. Some p.given };
+
+    ghost left = { λ _. None };
+
+    ghost faults = { λ p. (P.state p.inner).read_faults };
+
+    fn read(&mut self, into: &mut [u8]) -> Result<usize, Failed> {
+        self.receive(into)
+    }
+}
+
+impl<P: Pipe> Sink for ToldPipe<P> {
+    ghost use Rattle.std.specs.Prelude.{Some};
+
+    ghost taken = { λ p. Some p.written };
+
+    ghost faults = { λ p. (P.state p.inner).write_faults };
+
+    fn write(&mut self, bytes: &[u8]) -> Result<usize, Failed> {
+        self.send(bytes)
+    }
+}
+
+impl<P: Pipe> Pipe for ToldPipe<P> {
+    ghost use Rattle.told_links.specs.Telling.{told_pipe};
+
+    ghost state = { λ p. told_pipe (P.state p.inner) p.written p.given p.ended };
+
+    fn receive(&mut self, into: &mut [u8]) -> Result<usize, Failed> {
+        match self.inner.receive(into) {
+            Ok(count) => {
+                note_bytes(&mut self.given, &into[..count]);
+                self.ended = self.ended || (!into.is_empty() && count == 0);
+                Ok(count)
+            }
+            Err(Failed) => Err(Failed),
+        }
+    }
+
+    fn send(&mut self, bytes: &[u8]) -> Result<usize, Failed> {
+        match self.inner.send(bytes) {
+            Ok(count) => {
+                note_bytes(&mut self.written, &bytes[..count]);
+                Ok(count)
+            }
+            Err(Failed) => Err(Failed),
+        }
+    }
+
+    ghost reads = { λ p. (refl, refl) };
+
+    ghost writes = { λ p. (refl, refl) };
+}

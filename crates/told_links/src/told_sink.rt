@@ -1,0 +1,55 @@
+//! A sink over another sink.
+
+ghost use Rattle.std.specs.Prelude.{◌≡◌, []};
+
+use crate::noting::note_bytes;
+use lists::{Appended, NotedBytes};
+use std::marker::Model;
+use streams::{Failed, Sink};
+
+/// A sink that passes each write on, and tells what it took.
+#[derive(Drop)]
+pub struct ToldSink<K: Sink + Drop> {
+    inner: K,
+    // What was taken, for proofs alone.
+    taken: Appended<NotedBytes>,
+}
+
+impl<K: Sink + Drop> Model for ToldSink<K> {
+    ghost use Rattle.told_links.specs.Shown.{ToldText};
+    ghost use Rattle.told_links.specs.Noted.{bytes_noted};
+
+    ghost Value = { ToldText K };
+
+    ghost view = { λ s. record { inner = s.inner; taken = bytes_noted s.taken } };
+}
+
+impl<K: Sink + Drop> ToldSink<K> {
+    /// Over this sink. It has taken nothing, of what is told.
+    pub fn new(inner: K) -> ToldSink<K>
+        ensures { result ≡ record { inner = inner; taken = [] } }
+    {
+        ToldSink {
+            inner,
+            taken: Appended::new(),
+        }
+    }
+}
+
+impl<K: Sink + Drop> Sink for ToldSink<K> {
+    ghost use Rattle.std.specs.Prelude.{Some};
+
+    ghost taken = { λ s. Some s.taken };
+
+    ghost faults = { λ s. K.faults s.inner };
+
+    fn write(&mut self, bytes: &[u8]) -> Result<usize, Failed> {
+        match self.inner.write(bytes) {
+            Ok(count) => {
+                note_bytes(&mut self.taken, &bytes[..count]);
+                Ok(count)
+            }
+            Err(Failed) => Err(Failed),
+        }
+    }
+}
