@@ -1,19 +1,30 @@
 -- What one more item adds.
-use Rattle.std.proofs.Common.{◌≡◌, ℕ, Bool, List, [], ◌∷◌, ◌++◌, Option, Some, None, refl, ap, ◌∙◌}
+use Rattle.std.proofs.Common.{◌≡◌, ℕ, ◌<◌, Bool, true, ◌||◌, List, [], ◌∷◌, ◌++◌, Option, Some, None, false, sym, refl, ap, ◌∙◌}
 use Rattle.std.specs.Prelude.{map, IsSome}
 use Rattle.std.proofs.lemmas.List.{map-append, append-nil}
 use Rattle.std.proofs.lemmas.List.Folds.{concat-append}
 use Rattle.streams.specs.declared.marks.Mark.{Mark}
 use Rattle.outside.specs.LinksState.{Listening, LinksState}
-use Rattle.outside.specs.Pipes.{PipeState}
+use Rattle.outside.specs.Pipes.{PipeState, is_end}
 use Rattle.outside.specs.Binding.{PastLinks, past_with, told_past}
 use Rattle.outside.specs.Calling.{PastPipe, told_called}
-use Rattle.told_links.specs.Noted.{bytes_noted}
+use Rattle.told_links.specs.Noted.{bytes_noted, end_noted}
 use Rattle.told_links.specs.Telling.{told_links, told_pipe, past_of, call_of, place_of}
 
 pub bytes_added : (old new : List (List ℕ)) (piece : List ℕ) → new ≡ old ++ piece ∷ [] → bytes_noted new ≡ bytes_noted old ++ piece
 bytes_added old new piece more =
     ap bytes_noted more ∙ concat-append old (piece ∷ []) ∙ ap (λ (t : List ℕ). bytes_noted old ++ t) (append-nil piece)
+
+end_told : (old : List (Unit {0})) → end_noted (old ++ tt ∷ []) ≡ true
+end_told [] = refl
+end_told (e ∷ old) = refl
+
+or_true : (b : Bool) → b || true ≡ true
+or_true false = refl
+or_true true = refl
+
+pub end_added : (old new : List (Unit {0})) (end : Unit {0}) (lent count : ℕ) → new ≡ old ++ end ∷ [] → is_end lent count ≡ true → end_noted new ≡ (end_noted old || is_end lent count)
+end_added old new end lent count more is = ap end_noted more ∙ end_told old ∙ sym (or_true (end_noted old)) ∙ ap (λ (b : Bool). end_noted old || b) (sym is)
 
 past_told : (past : List PastLinks) (over : Bool) (tape : List Mark) (listens : Option Listening) → IsSome listens
     → Some (past ++ record { tape = tape; over = over; listening = place_of listens } ∷ []) ≡ past_with past over (Some tape) listens

@@ -1,3 +1,4 @@
 pub mod Shown
+pub mod Alike
 pub mod Noted
 pub mod Telling

@@ -1,5 +1,5 @@
 -- What notes stand for.
-use Rattle.std.specs.Prelude.{ℕ, List, map}
+use Rattle.std.specs.Prelude.{ℕ, Bool, true, false, List, [], ◌∷◌, map}
 use Rattle.std.specs.List.{concat}
 use Rattle.streams.specs.declared.marks.Mark.{Mark}
 use Rattle.streams.specs.declared.marks.Mark.TheVariants as marks
@@ -23,3 +23,8 @@ marks_noted notes = map mark_noted notes
 -- the bytes that were noted piece by piece, one behind another
 abbrev pub bytes_noted : List (List ℕ) → List ℕ
 bytes_noted pieces = concat pieces
+
+-- whether the end was noted
+abbrev pub end_noted : List (Unit {0}) → Bool
+end_noted [] = false
+end_noted (end ∷ ends) = true

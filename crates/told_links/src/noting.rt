@@ -1,10 +1,11 @@
 //! Notes what calls answered. Nothing of it runs.
 
-ghost use Rattle.std.specs.Prelude.{◌≡◌, ◌++◌, length};
+ghost use Rattle.std.specs.Prelude.{◌≡◌, ◌++◌, ◌||◌, length};
 ghost use Rattle.outside.specs.Faults.{MovesWithin};
+ghost use Rattle.outside.specs.Pipes.{is_end};
 ghost use Rattle.outside.specs.Reading.{marks_of_read};
 ghost use Rattle.outside.specs.Writing.{marks_of_write};
-ghost use Rattle.told_links.specs.Noted.{marks_noted, bytes_noted};
+ghost use Rattle.told_links.specs.Noted.{marks_noted, bytes_noted, end_noted};
 ghost use Rattle.told_links.specs.Telling.{marks_of_ask};
 
 use crate::note::Note;
@@ -54,6 +55,17 @@ pub(crate) fn note_write(tape: &mut Appended<Note>, c: u32, bytes: &[u8], taken:
         Taken::NotYet => {}
         Taken::Failed => tape.push(&Note::WriteFailed(c)),
         Taken::NoMemory => {}
+    }
+}
+
+/// Notes whether a read that was lent so much, and gave so much, answered the end.
+#[inline(always)]
+#[tactic(auto, using(crate::proofs::Adding::end_added))]
+pub(crate) fn note_end(ends: &mut Appended<()>, lent: usize, count: usize)
+    ensures { end_noted ends.new ≡ (end_noted ends.old || is_end lent count) }
+{
+    if lent > 0 && count == 0 {
+        ends.push(&());
     }
 }
 

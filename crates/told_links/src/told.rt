@@ -27,10 +27,13 @@ pub struct Told<L: Links + Drop> {
 impl<L: Links + Drop> Model for Told<L> {
     ghost use Rattle.told_links.specs.Shown.{ToldTape};
     ghost use Rattle.told_links.specs.Noted.{marks_noted};
+    ghost use Rattle.told_links.specs.Alike.{IsAlike};
 
     ghost Value = { ToldTape L };
 
     ghost view = { λ l. record { inner = l.inner; tape = marks_noted l.tape } };
+
+    ghost invariant = { λ l. IsAlike (L.state l.inner).tape (marks_noted l.tape) };
 }
 
 impl<L: Links + Drop> Links for Told<L> {

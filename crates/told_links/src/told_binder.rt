@@ -8,6 +8,7 @@ use lists::Appended;
 use outside::{BindFail, Binder};
 use std::alloc::Global;
 use std::marker::Model;
+use std::snapshot::Snapshot;
 
 /// A binder whose links and pipes tell what they did, and which tells of those that came back.
 #[derive(Drop)]
@@ -17,29 +18,39 @@ pub struct ToldBinder<B: Binder + Drop> {
     past: Appended<Told<B::L>>,
     // The pipes that were hung up, the oldest first, for proofs alone.
     called: Appended<ToldPipe<B::P>>,
+    // The binder as it was handed in, for proofs alone.
+    opening: Snapshot<B>,
 }
 
 impl<B: Binder + Drop> Model for ToldBinder<B> {
     ghost use Rattle.std.specs.Prelude.{map};
     ghost use Rattle.told_links.specs.Shown.{ToldReturns};
+    ghost use Rattle.told_links.specs.Alike.{HasMore};
     ghost use Rattle.told_links.specs.Telling.{past_of, call_of};
 
     ghost Value = { ToldReturns B };
 
     ghost view = { λ b. record {
       inner = b.inner;
+      opening = b.opening.value;
       past = map (λ links. past_of (B.L.state links.inner) links.tape) b.past;
       called = map (λ pipe. call_of (B.P.state pipe.inner) pipe.written pipe.given pipe.ended) b.called;
     } };
+
+    ghost invariant = { λ b.
+      HasMore (B.past b.opening.value) (map (λ links. past_of (B.L.state links.inner) links.tape) b.past) (B.past b.inner)
+      × HasMore (B.called b.opening.value) (map (λ pipe. call_of (B.P.state pipe.inner) pipe.written pipe.given pipe.ended) b.called) (B.called b.inner) };
 }
 
 impl<B: Binder + Drop> ToldBinder<B> {
     /// Over this binder. No links have come back yet, and no pipe, and both are told.
     pub fn new(inner: B) -> ToldBinder<B>
-        ensures { result ≡ record { inner = inner; past = []; called = [] } }
+        ensures { result ≡ record { inner = inner; opening = inner; past = []; called = [] } }
     {
+        let opening = Snapshot::of(&inner);
         ToldBinder {
             inner,
+            opening,
             past: Appended::new(),
             called: Appended::new(),
         }
@@ -88,7 +99,7 @@ impl<B: Binder + Drop> Binder for ToldBinder<B> {
                 inner,
                 written: Appended::new(),
                 given: Appended::new(),
-                ended: false,
+                ends: Appended::new(),
             }),
             Err(fail) => Err(fail),
         }
@@ -101,7 +112,7 @@ impl<B: Binder + Drop> Binder for ToldBinder<B> {
             inner,
             written: _,
             given: _,
-            ended: _,
+            ends: _,
         } = pipe;
         self.inner.hang_up(inner);
     }

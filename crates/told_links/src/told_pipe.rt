@@ -2,7 +2,7 @@
 
 ghost use Rattle.std.specs.Prelude.{◌≡◌, refl};
 
-use crate::noting::note_bytes;
+use crate::noting::{note_bytes, note_end};
 use lists::{Appended, NotedBytes};
 use outside::Pipe;
 use std::marker::Model;
@@ -16,17 +16,20 @@ pub struct ToldPipe<P: Pipe> {
     pub(crate) written: Appended<NotedBytes>,
     // What was read, for proofs alone.
     pub(crate) given: Appended<NotedBytes>,
-    // Whether a read has answered the end.
-    pub(crate) ended: bool,
+    // The reads that answered the end, for proofs alone.
+    pub(crate) ends: Appended<()>,
 }
 
 impl<P: Pipe> Model for ToldPipe<P> {
     ghost use Rattle.told_links.specs.Shown.{ToldTalk};
-    ghost use Rattle.told_links.specs.Noted.{bytes_noted};
+    ghost use Rattle.told_links.specs.Noted.{bytes_noted, end_noted};
+    ghost use Rattle.told_links.specs.Alike.{TellsAlike};
 
     ghost Value = { ToldTalk P };
 
-    ghost view = { λ p. record { inner = p.inner; written = bytes_noted p.written; given = bytes_noted p.given; ended = p.ended } };
+    ghost view = { λ p. record { inner = p.inner; written = bytes_noted p.written; given = bytes_noted p.given; ended = end_noted p.ends } };
+
+    ghost invariant = { λ p. TellsAlike (P.state p.inner) (bytes_noted p.written) (bytes_noted p.given) (end_noted p.ends) };
 }
 
 impl<P: Pipe> Source for ToldPipe<P> {
@@ -64,7 +67,7 @@ impl<P: Pipe> Pipe for ToldPipe<P> {
         match self.inner.receive(into) {
             Ok(count) => {
                 note_bytes(&mut self.given, &into[..count]);
-                self.ended = self.ended || (!into.is_empty() && count == 0);
+                note_end(&mut self.ends, into.len(), count);
                 Ok(count)
             }
             Err(Failed) => Err(Failed),

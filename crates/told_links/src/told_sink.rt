@@ -5,6 +5,7 @@ ghost use Rattle.std.specs.Prelude.{◌≡◌, []};
 use crate::noting::note_bytes;
 use lists::{Appended, NotedBytes};
 use std::marker::Model;
+use std::snapshot::Snapshot;
 use streams::{Failed, Sink};
 
 /// A sink that passes each write on, and tells what it took.
@@ -13,25 +14,33 @@ pub struct ToldSink<K: Sink + Drop> {
     inner: K,
     // What was taken, for proofs alone.
     taken: Appended<NotedBytes>,
+    // The sink as it was handed in, for proofs alone.
+    opening: Snapshot<K>,
 }
 
 impl<K: Sink + Drop> Model for ToldSink<K> {
     ghost use Rattle.told_links.specs.Shown.{ToldText};
+    ghost use Rattle.std.specs.Prelude.{◌≡◌};
+    ghost use Rattle.streams.specs.Content.{told_more};
     ghost use Rattle.told_links.specs.Noted.{bytes_noted};
 
     ghost Value = { ToldText K };
 
-    ghost view = { λ s. record { inner = s.inner; taken = bytes_noted s.taken } };
+    ghost view = { λ s. record { inner = s.inner; opening = s.opening.value; taken = bytes_noted s.taken } };
+
+    ghost invariant = { λ s. K.taken s.inner ≡ told_more (K.taken s.opening.value) (bytes_noted s.taken) };
 }
 
 impl<K: Sink + Drop> ToldSink<K> {
     /// Over this sink. It has taken nothing, of what is told.
     pub fn new(inner: K) -> ToldSink<K>
-        ensures { result ≡ record { inner = inner; taken = [] } }
+        ensures { result ≡ record { inner = inner; opening = inner; taken = [] } }
     {
+        let opening = Snapshot::of(&inner);
         ToldSink {
             inner,
             taken: Appended::new(),
+            opening,
         }
     }
 }
