@@ -1,4 +1,4 @@
 pub mod Shown
-pub mod Alike
+pub mod Same
 pub mod Noted
 pub mod Telling

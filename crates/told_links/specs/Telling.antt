@@ -23,14 +23,14 @@ abbrev pub told_pipe : PipeState → (written given : List ℕ) → Bool → Pip
 told_pipe inner written given ended = record inner { written = Some written; given = Some given; left = None; ended = Some ended }
 
 -- where links listened; links that listen nowhere don't come back
-abbrev pub place_of : Option Listening → Listening
-place_of None = record { port = 0; accept = 0 }
-place_of (Some listening) = listening
+abbrev pub place_listened : Option Listening → Listening
+place_listened None = record { port = 0; accept = 0 }
+place_listened (Some listening) = listening
 
 -- links that came back with this tape
-abbrev pub past_of : LinksState → List Mark → PastLinks
-past_of inner tape = record { tape = tape; over = inner.over; listening = place_of inner.listens }
+abbrev pub returned_links : LinksState → List Mark → PastLinks
+returned_links inner tape = record { tape = tape; over = inner.over; listening = place_listened inner.listens }
 
 -- a pipe that was hung up, to which this was written and of which this was read
-abbrev pub call_of : PipeState → (written given : List ℕ) → Bool → PastPipe
-call_of inner written given ended = record { port = inner.port; written = written; read = given; ended = ended }
+abbrev pub hung_up_pipe : PipeState → (written given : List ℕ) → Bool → PastPipe
+hung_up_pipe inner written given ended = record { port = inner.port; written = written; read = given; ended = ended }

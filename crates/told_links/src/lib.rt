@@ -15,14 +15,14 @@
 //! Here the contract of `hang_up` tells the port, and the bytes of `frame` that were written.
 #![tactic(auto)]
 
+mod binder;
+mod links;
 mod note;
 mod noting;
-mod told;
-mod told_binder;
-mod told_pipe;
-mod told_sink;
+mod pipe;
+mod sink;
 
-pub use told::Told;
-pub use told_binder::ToldBinder;
-pub use told_pipe::ToldPipe;
-pub use told_sink::ToldSink;
+pub use binder::ToldBinder;
+pub use links::ToldLinks;
+pub use pipe::ToldPipe;
+pub use sink::ToldSink;

@@ -2,8 +2,8 @@
 
 ghost use Rattle.std.specs.Prelude.{◌≡◌, []};
 
-use crate::told::Told;
-use crate::told_pipe::ToldPipe;
+use crate::links::ToldLinks;
+use crate::pipe::ToldPipe;
 use lists::Appended;
 use outside::{BindFail, Binder};
 use std::alloc::Global;
@@ -15,7 +15,7 @@ use std::snapshot::Snapshot;
 pub struct ToldBinder<B: Binder + Drop> {
     inner: B,
     // The links that came back, the oldest first, for proofs alone.
-    past: Appended<Told<B::L>>,
+    past: Appended<ToldLinks<B::L>>,
     // The pipes that were hung up, the oldest first, for proofs alone.
     called: Appended<ToldPipe<B::P>>,
     // The binder as it was handed in, for proofs alone.
@@ -25,21 +25,21 @@ pub struct ToldBinder<B: Binder + Drop> {
 impl<B: Binder + Drop> Model for ToldBinder<B> {
     ghost use Rattle.std.specs.Prelude.{map};
     ghost use Rattle.told_links.specs.Shown.{ToldReturns};
-    ghost use Rattle.told_links.specs.Alike.{HasMore};
-    ghost use Rattle.told_links.specs.Telling.{past_of, call_of};
+    ghost use Rattle.told_links.specs.Same.{HasTheseMore};
+    ghost use Rattle.told_links.specs.Telling.{returned_links, hung_up_pipe};
 
     ghost Value = { ToldReturns B };
 
     ghost view = { λ b. record {
       inner = b.inner;
       opening = b.opening.value;
-      past = map (λ links. past_of (B.L.state links.inner) links.tape) b.past;
-      called = map (λ pipe. call_of (B.P.state pipe.inner) pipe.written pipe.given pipe.ended) b.called;
+      past = map (λ links. returned_links (B.L.state links.inner) links.tape) b.past;
+      called = map (λ pipe. hung_up_pipe (B.P.state pipe.inner) pipe.written pipe.given pipe.ended) b.called;
     } };
 
     ghost invariant = { λ b.
-      HasMore (B.past b.opening.value) (map (λ links. past_of (B.L.state links.inner) links.tape) b.past) (B.past b.inner)
-      × HasMore (B.called b.opening.value) (map (λ pipe. call_of (B.P.state pipe.inner) pipe.written pipe.given pipe.ended) b.called) (B.called b.inner) };
+        HasTheseMore (B.past b.opening.value) (map (λ links. returned_links (B.L.state links.inner) links.tape) b.past) (B.past b.inner)
+        × HasTheseMore (B.called b.opening.value) (map (λ pipe. hung_up_pipe (B.P.state pipe.inner) pipe.written pipe.given pipe.ended) b.called) (B.called b.inner) };
 }
 
 impl<B: Binder + Drop> ToldBinder<B> {
@@ -60,7 +60,7 @@ impl<B: Binder + Drop> ToldBinder<B> {
 impl<B: Binder + Drop> Binder for ToldBinder<B> {
     ghost use Rattle.std.specs.Prelude.{Some};
 
-    type L = Told<B::L>;
+    type L = ToldLinks<B::L>;
 
     type P = ToldPipe<B::P>;
 
@@ -76,9 +76,14 @@ impl<B: Binder + Drop> Binder for ToldBinder<B> {
         true
     }
 
-    fn listen(&mut self, alloc: Global, port: u16, accept: u32) -> Result<Told<B::L>, BindFail> {
+    fn listen(
+        &mut self,
+        alloc: Global,
+        port: u16,
+        accept: u32,
+    ) -> Result<ToldLinks<B::L>, BindFail> {
         match self.inner.listen(alloc, port, accept) {
-            Ok(inner) => Ok(Told {
+            Ok(inner) => Ok(ToldLinks {
                 inner,
                 tape: Appended::new(),
             }),
@@ -87,9 +92,9 @@ impl<B: Binder + Drop> Binder for ToldBinder<B> {
     }
 
     #[tactic(auto, using(crate::proofs::Adding::past_added))]
-    fn take_back(&mut self, links: Told<B::L>) {
+    fn take_back(&mut self, links: ToldLinks<B::L>) {
         self.past.push(&links);
-        let Told { inner, tape: _ } = links;
+        let ToldLinks { inner, tape: _ } = links;
         self.inner.take_back(inner);
     }
 

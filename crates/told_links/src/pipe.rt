@@ -23,13 +23,13 @@ pub struct ToldPipe<P: Pipe> {
 impl<P: Pipe> Model for ToldPipe<P> {
     ghost use Rattle.told_links.specs.Shown.{ToldTalk};
     ghost use Rattle.told_links.specs.Noted.{bytes_noted, end_noted};
-    ghost use Rattle.told_links.specs.Alike.{TellsAlike};
+    ghost use Rattle.told_links.specs.Same.{TellsTheSame};
 
     ghost Value = { ToldTalk P };
 
     ghost view = { λ p. record { inner = p.inner; written = bytes_noted p.written; given = bytes_noted p.given; ended = end_noted p.ends } };
 
-    ghost invariant = { λ p. TellsAlike (P.state p.inner) (bytes_noted p.written) (bytes_noted p.given) (end_noted p.ends) };
+    ghost invariant = { λ p. TellsTheSame (P.state p.inner) (bytes_noted p.written) (bytes_noted p.given) (end_noted p.ends) };
 }
 
 impl<P: Pipe> Source for ToldPipe<P> {

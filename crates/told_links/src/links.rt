@@ -18,25 +18,25 @@ use streams::Failed;
 
 /// Links that pass each call on, and tell what it answered.
 #[derive(Drop)]
-pub struct Told<L: Links + Drop> {
+pub struct ToldLinks<L: Links + Drop> {
     pub(crate) inner: L,
     // What happened, the oldest first, for proofs alone.
     pub(crate) tape: Appended<Note>,
 }
 
-impl<L: Links + Drop> Model for Told<L> {
+impl<L: Links + Drop> Model for ToldLinks<L> {
     ghost use Rattle.told_links.specs.Shown.{ToldTape};
     ghost use Rattle.told_links.specs.Noted.{marks_noted};
-    ghost use Rattle.told_links.specs.Alike.{IsAlike};
+    ghost use Rattle.told_links.specs.Same.{IsSameIfTold};
 
     ghost Value = { ToldTape L };
 
     ghost view = { λ l. record { inner = l.inner; tape = marks_noted l.tape } };
 
-    ghost invariant = { λ l. IsAlike (L.state l.inner).tape (marks_noted l.tape) };
+    ghost invariant = { λ l. IsSameIfTold (L.state l.inner).tape (marks_noted l.tape) };
 }
 
-impl<L: Links + Drop> Links for Told<L> {
+impl<L: Links + Drop> Links for ToldLinks<L> {
     ghost use Rattle.told_links.specs.Telling.{told_links};
 
     type Bell = L::Bell;
