@@ -16,15 +16,13 @@ pub record ToldTalk (P : Type 0) : Type 0 where
   pub given : List ℕ
   pub ended : Bool
 
--- a sink, the same as it was handed in, and what it took since
+-- a sink, and what it took
 pub record ToldText (K : Type 0) : Type 0 where
   pub inner : K
-  pub opening : K
   pub taken : List ℕ
 
--- a binder, the same as it was handed in, the links that came back since, and the pipes that were hung up
+-- a binder, the links that came back, and the pipes that were hung up
 pub record ToldReturns (B : Type 0) : Type 0 where
   pub inner : B
-  pub opening : B
   pub past : List PastLinks
   pub called : List PastPipe

@@ -32,7 +32,6 @@ impl<B: Binder + Drop> Model for ToldBinder<B> {
 
     ghost view = { λ b. record {
       inner = b.inner;
-      opening = b.opening.value;
       past = map (λ links. returned_links (B.L.state links.inner) links.tape) b.past;
       called = map (λ pipe. hung_up_pipe (B.P.state pipe.inner) pipe.written pipe.given pipe.ended) b.called;
     } };
@@ -45,7 +44,7 @@ impl<B: Binder + Drop> Model for ToldBinder<B> {
 impl<B: Binder + Drop> ToldBinder<B> {
     /// Over this binder. No links have come back yet, and no pipe, and both are told.
     pub fn new(inner: B) -> ToldBinder<B>
-        ensures { result ≡ record { inner = inner; opening = inner; past = []; called = [] } }
+        ensures { result ≡ record { inner = inner; past = []; called = [] } }
     {
         let opening = Snapshot::of(&inner);
         ToldBinder {

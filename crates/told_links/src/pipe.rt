@@ -1,6 +1,8 @@
 //! A pipe over another pipe.
 
-ghost use Rattle.std.specs.Prelude.{◌≡◌, refl};
+ghost use Rattle.std.specs.Prelude.{◌≡◌, length, refl};
+ghost use Rattle.outside.specs.Pipes.{Receives, Sends};
+ghost use Rattle.told_links.specs.Moved.{moved_after, ended_after};
 
 use crate::noting::{note_bytes, note_end};
 use lists::{Appended, NotedBytes};
@@ -41,7 +43,12 @@ impl<P: Pipe> Source for ToldPipe<P> {
 
     ghost faults = { λ p. (P.state p.inner).read_faults };
 
-    fn read(&mut self, into: &mut [u8]) -> Result<usize, Failed> {
+    fn read(&mut self, into: &mut [u8]) -> Result<usize, Failed>
+        ensures inside { Receives into.new (P.state self.old.inner) (P.state self.new.inner) result }
+        ensures given { self.new.given ≡ moved_after self.old.given into.new result }
+        ensures ended { self.new.ended ≡ ended_after self.old.ended (length into.new) result }
+        ensures written { self.new.written ≡ self.old.written }
+    {
         self.receive(into)
     }
 }
@@ -53,7 +60,12 @@ impl<P: Pipe> Sink for ToldPipe<P> {
 
     ghost faults = { λ p. (P.state p.inner).write_faults };
 
-    fn write(&mut self, bytes: &[u8]) -> Result<usize, Failed> {
+    fn write(&mut self, bytes: &[u8]) -> Result<usize, Failed>
+        ensures inside { Sends bytes.now (P.state self.old.inner) (P.state self.new.inner) result }
+        ensures written { self.new.written ≡ moved_after self.old.written bytes.now result }
+        ensures given { self.new.given ≡ self.old.given }
+        ensures ended { self.new.ended ≡ self.old.ended }
+    {
         self.send(bytes)
     }
 }
@@ -63,7 +75,12 @@ impl<P: Pipe> Pipe for ToldPipe<P> {
 
     ghost state = { λ p. told_pipe (P.state p.inner) p.written p.given p.ended };
 
-    fn receive(&mut self, into: &mut [u8]) -> Result<usize, Failed> {
+    fn receive(&mut self, into: &mut [u8]) -> Result<usize, Failed>
+        ensures inside { Receives into.new (P.state self.old.inner) (P.state self.new.inner) result }
+        ensures given { self.new.given ≡ moved_after self.old.given into.new result }
+        ensures ended { self.new.ended ≡ ended_after self.old.ended (length into.new) result }
+        ensures written { self.new.written ≡ self.old.written }
+    {
         match self.inner.receive(into) {
             Ok(count) => {
                 note_bytes(&mut self.given, &into[..count]);
@@ -74,7 +91,12 @@ impl<P: Pipe> Pipe for ToldPipe<P> {
         }
     }
 
-    fn send(&mut self, bytes: &[u8]) -> Result<usize, Failed> {
+    fn send(&mut self, bytes: &[u8]) -> Result<usize, Failed>
+        ensures inside { Sends bytes.now (P.state self.old.inner) (P.state self.new.inner) result }
+        ensures written { self.new.written ≡ moved_after self.old.written bytes.now result }
+        ensures given { self.new.given ≡ self.old.given }
+        ensures ended { self.new.ended ≡ self.old.ended }
+    {
         match self.inner.send(bytes) {
             Ok(count) => {
                 note_bytes(&mut self.written, &bytes[..count]);

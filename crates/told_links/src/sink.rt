@@ -1,6 +1,9 @@
 //! A sink over another sink.
 
-ghost use Rattle.std.specs.Prelude.{◌≡◌, []};
+ghost use Rattle.std.specs.Prelude.{◌≡◌, [], MatchResult};
+ghost use Rattle.streams.specs.Cause.{HasCause};
+ghost use Rattle.streams.specs.Content.{HasWritten};
+ghost use Rattle.told_links.specs.Moved.{moved_after};
 
 use crate::noting::note_bytes;
 use lists::{Appended, NotedBytes};
@@ -26,7 +29,7 @@ impl<K: Sink + Drop> Model for ToldSink<K> {
 
     ghost Value = { ToldText K };
 
-    ghost view = { λ s. record { inner = s.inner; opening = s.opening.value; taken = bytes_noted s.taken } };
+    ghost view = { λ s. record { inner = s.inner; taken = bytes_noted s.taken } };
 
     ghost invariant = { λ s. K.taken s.inner ≡ told_more (K.taken s.opening.value) (bytes_noted s.taken) };
 }
@@ -34,7 +37,7 @@ impl<K: Sink + Drop> Model for ToldSink<K> {
 impl<K: Sink + Drop> ToldSink<K> {
     /// Over this sink. It has taken nothing, of what is told.
     pub fn new(inner: K) -> ToldSink<K>
-        ensures { result ≡ record { inner = inner; opening = inner; taken = [] } }
+        ensures { result ≡ record { inner = inner; taken = [] } }
     {
         let opening = Snapshot::of(&inner);
         ToldSink {
@@ -52,7 +55,13 @@ impl<K: Sink + Drop> Sink for ToldSink<K> {
 
     ghost faults = { λ s. K.faults s.inner };
 
-    fn write(&mut self, bytes: &[u8]) -> Result<usize, Failed> {
+    fn write(&mut self, bytes: &[u8]) -> Result<usize, Failed>
+        ensures inside { MatchResult result
+            (λ count. HasWritten (K.taken self.old.inner) (K.taken self.new.inner) bytes.now count)
+            (λ _. K.taken self.new.inner ≡ K.taken self.old.inner) }
+        ensures cause { HasCause (K.faults self.old.inner) (K.faults self.new.inner) result }
+        ensures taken { self.new.taken ≡ moved_after self.old.taken bytes.now result }
+    {
         match self.inner.write(bytes) {
             Ok(count) => {
                 note_bytes(&mut self.taken, &bytes[..count]);
