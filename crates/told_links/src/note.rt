@@ -4,7 +4,7 @@ use lists::NotedBytes;
 
 /// One thing that happened on the connection of the number that it carries. Its bytes are seen by contracts alone.
 #[derive(Drop)]
-pub enum Note {
+pub(crate) enum Note {
     /// The connection was opened.
     Opened(u32),
     /// These bytes were read.
