@@ -16,6 +16,7 @@ use std::thread::Threads;
 use std::{env, io};
 use streams::{RealFiles, RealIn, RealOut};
 use thrift_host::{Status, host};
+use told_links::ToldBinder;
 
 fn main(rt: HostRuntime) -> ExitCode {
     let _kept = [open_root(&rt), open_root(&rt), open_root(&rt)];
@@ -83,7 +84,7 @@ fn run_with<H: Handler, R: Threads + Wait + Net + Sync>(
     let mut input = RealIn::new(rt);
     let mut output = RealOut::output(rt);
     let mut errors = RealOut::errors(rt);
-    let mut binder = NetBinder::new(handle);
+    let mut binder = ToldBinder::new(NetBinder::new(handle));
     host(
         handle,
         rt.alloc(),

@@ -1,0 +1,5 @@
+pub mod Shown
+pub mod Same
+pub mod Moved
+pub mod Noted
+pub mod Telling
