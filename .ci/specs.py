@@ -45,6 +45,8 @@ class Specs:
         with open(os.path.join(TOP, path), encoding="utf-8") as it:
             text = it.read()
         self.imports, self.aliases = imports_of(text, "use ")
+        # (those that it hands on to who names them by this file)
+        self.handed_on, _ = imports_of("\n".join(re.findall(r"(?m)^pub use [^\n]*(?:\n[ \t}][^\n]*)*", text)), "use ")
         self.definitions = []
         self.read(re.sub(IMPORT.format("use |mod |infix"), "", text).split("\n"))
         self.named = {name: it for it in self.definitions for name in (*it.names, *it.parts)}
@@ -150,7 +152,12 @@ def at(path, name):
     if words[3] == "declared":
         return ".".join(words[:-1]) if words[-1] == "TheVariants" else path if words[-1] == name else f"{path}.{name}"
     file = files().get((words[1], words[3]))
-    return file.named.get(name) or file.named.get(words[-1]) if file else None
+    if not file or name in file.named:
+        return file and file.named[name]
+    if name in file.handed_on:
+        return at(*file.handed_on[name])
+    # (a variant, by the path of its data type)
+    return file.named.get(words[-1]) if len(words) > 4 else None
 
 
 def found_in(text, imports, aliases, named, bound=frozenset()):

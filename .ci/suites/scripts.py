@@ -176,9 +176,19 @@ def wrong_build(place):
     place.commands(rt=PASSING).wants(["test", "--all"], 1, "failed: .*, by the programs that both compilers built here.*")
 
 
+def handed_on_name(place):
+    """A name that a file hands on is the definition behind it, and not the one that is called as the file."""
+    place.copied()
+    place.write("copy/crates.txt", "low:\nmid: low\ntop: mid\n")
+    place.write("copy/crates/low/specs/Most.antt", "abbrev pub most : ℕ\nmost = 3\n")
+    place.write("copy/crates/mid/specs/Phase.antt", "pub use Rattle.low.specs.Most.{most}\n\npub data Phase : Type 0 where\n  begun : Phase\n")
+    place.write("copy/crates/top/specs/Twice.antt", "use Rattle.mid.specs.Phase.{most}\n\nabbrev pub twice : ℕ\ntwice = most + most\n")
+    place.wants([".ci/reading", "--names", "twice"], 0, "`twice`: 2 definitions.*", "- Most: `most`", "- Twice: `twice`")
+
+
 CASES = [right_program, wrong_program, wrong_program_in_examples, wrong_program_on_the_screen, missing_program, program_of_other_sources]
 CASES += [empty_rows, no_rows_at_all, unknown_name, no_python, no_python_for_texts, no_repository_for_texts, no_kit]
-CASES += [failed_proof, failed_gate, proof_that_built_nothing, build_of_both, old_build, wrong_build]
+CASES += [failed_proof, failed_gate, proof_that_built_nothing, build_of_both, old_build, wrong_build, handed_on_name]
 
 
 def within(case):
