@@ -1,9 +1,9 @@
 -- The content of a store of files, which may be untold, and what a read of a whole file answers.
-use Rattle.std.specs.Prelude.{◌≡◌, ℕ, ◌<◌, ◌≤◌, List, [], ◌∷◌, length, Option, Some, None, Bool, true, false, nat_le, Result, Err, IfOk, OnOk, if◌then◌else◌, ⊤}
+use Rattle.std.specs.Prelude.{◌≡◌, ◌≢◌, ℕ, ◌<◌, ◌≤◌, List, [], ◌∷◌, length, Option, Some, None, Bool, true, false, nat_le, Result, Err, IfOk, if◌then◌else◌, ⊤}
 use Rattle.std.specs.Str.{bytes_eq}
 use Rattle.streams.specs.Cause.{Rose}
 use Rattle.streams.specs.declared.files.FileFail.{FileFail}
-use Rattle.streams.specs.declared.files.FileFail.TheVariants.{Absent, TooLong, Failed, NoMemory}
+use Rattle.streams.specs.declared.files.FileFail.TheVariants.{Absent, TooLong, Failed}
 
 -- a file: its name and what it holds, in bytes
 pub record File : Type 0 where
@@ -45,9 +45,8 @@ abbrev pub has_failed : {A : Type 0} → Result A FileFail → Bool
 has_failed (Err Failed) = true
 has_failed _ = false
 
--- the count of faults never falls, a read is said to have failed only where it rose, and the count is as before where the file was read or found no room
+-- the count of faults never falls, a read is said to have failed only where it rose, and with any other answer it is as before
 pub record HasFileCause {A : Type 0} (before now : ℕ) (result : Result A FileFail) : Type 0 where
   pub later : before ≤ now
   pub failed : result ≡ Err Failed → Rose before now
-  pub kept : OnOk result (now ≡ before)
-  pub no_memory : result ≡ Err NoMemory → now ≡ before
+  pub kept : result ≢ Err Failed → now ≡ before

@@ -64,11 +64,11 @@ pub record FilesState : Type 0 where
   pub wants : ℕ
   pub sink_faults : ℕ
 
--- a call to read or to make a file, which isn't one that is to fail
+-- a call, which counts no fault
 abbrev pub after_file : FilesState → FilesState
 after_file f = record f { call = next_count f.call }
 
--- a call that is to fail: the fault is counted, whatever is answered
+-- a read failed
 abbrev pub after_failed_file : FilesState → FilesState
 after_failed_file f = record f { call = next_count f.call; faults = next_count f.faults }
 

@@ -1,7 +1,7 @@
 //! Files in memory.
 
-ghost use Rattle.std.specs.Prelude.{◌≡◌, ◌≤◌, ◌&&◌, false, Some, None, [], map, string_bytes, IfOk, IsErr, MatchOption, MatchResult, IsTrue, if◌then◌else◌};
-ghost use Rattle.streams.specs.Cause.{Rose, HasCause, next_if_faulty};
+ghost use Rattle.std.specs.Prelude.{◌≡◌, ◌≤◌, ◌&&◌, Some, None, [], map, string_bytes, IfOk, IsErr, MatchOption, MatchResult, IsTrue, if◌then◌else◌};
+ghost use Rattle.streams.specs.Cause.{Rose, HasCause, next_count, next_if_faulty};
 ghost use Rattle.streams.specs.Files.{IsWholeFile, HasFileCause, content_of, fits, has_failed};
 ghost use Rattle.streams.specs.Making.{IsThere, MakesFile, with_file, told_with_file};
 ghost use Rattle.streams.specs.Memory.{is_listed, after_file, after_failed_file, after_made_file, after_unmade_file, after_sink, empty_sink};
@@ -13,8 +13,8 @@ use super::streams::Failed;
 use std::alloc::{AllocError, Global};
 use std::marker::Model;
 
-/// Files in memory, the first of a name being the file of that name. The calls to read or to make a file whose numbers were given, counted from 0, count
-/// a fault each, fail to read a file that could be read, and make none.
+/// Files in memory, the first of a name being the file of that name. The calls to read or to make a file whose numbers were given, counted from 0, fail to
+/// read a file that could be read, and make none; the others fail for want of memory alone.
 #[derive(Drop)]
 pub struct MemFiles {
     /// The files, each a name and its bytes.
@@ -25,7 +25,7 @@ pub struct MemFiles {
     sink_fails: Vec<u64>,
     /// The number of the next call; it stands still at its type's end.
     call: u64,
-    /// How many calls counted a fault; it stands still at its type's end.
+    /// How many calls failed; it stands still at its type's end.
     faults: u64,
     /// How many calls to make a file found no memory; it stands still at its type's end.
     wants: u64,
@@ -85,7 +85,7 @@ impl MemFiles {
         }
     }
 
-    /// How many calls counted a fault.
+    /// How many calls failed.
     pub fn faults(&self) -> u64
         ensures { result ≡ self.now.faults }
     {
@@ -106,21 +106,24 @@ impl MemFiles {
         self.sink_faults
     }
 
-    /// Counts one more call, with a fault where it is one that is to fail, and answers whether it is.
+    /// Counts one more call, and answers whether it is one that is to fail.
     fn count_call(&mut self) -> bool
         ensures fails { result ≡ is_listed self.old.fails self.old.call }
-        ensures later { self.old.faults ≤ self.new.faults }
-        ensures rose { IsTrue result → Rose self.old.faults self.new.faults }
-        ensures kept { result ≡ false → self.new.faults ≡ self.old.faults }
-        ensures after { self.new ≡ (if is_listed self.old.fails self.old.call then after_failed_file self.old else after_file self.old) }
+        ensures kept { self.new.faults ≡ self.old.faults }
+        ensures after { self.new ≡ after_file self.old }
     {
         let call = self.call;
         self.call = call.saturating_add(1);
-        if self.fails.as_slice().contains(&call) {
-            self.faults = self.faults.saturating_add(1);
-            return true;
-        }
-        false
+        self.fails.as_slice().contains(&call)
+    }
+
+    /// Counts one more call that failed.
+    fn count_fault(&mut self)
+        ensures later { self.old.faults ≤ self.new.faults }
+        ensures rose { Rose self.old.faults self.new.faults }
+        ensures after { self.new ≡ record self.old { faults = next_count self.old.faults } }
+    {
+        self.faults = self.faults.saturating_add(1);
     }
 
     /// What the first file of this name holds.
@@ -204,7 +207,7 @@ impl Files for MemFiles {
 
         // It fails exactly where it was told to, at a file that is there and isn't too long.
         ensures fails { has_failed result ≡ (is_listed self.old.fails self.old.call && fits limit (content_of self.old.files name.now)) }
-        ensures after { self.new ≡ (if is_listed self.old.fails self.old.call then after_failed_file self.old else after_file self.old) }
+        ensures after { self.new ≡ (if has_failed result then after_failed_file self.old else after_file self.old) }
     {
         let fails = self.count_call();
         let Some(bytes) = self.find(name) else {
@@ -214,6 +217,7 @@ impl Files for MemFiles {
             return Err(FileFail::TooLong);
         }
         if fails {
+            self.count_fault();
             return Err(FileFail::Failed);
         }
         Ok(Vec::from_slice(alloc, bytes)?)
@@ -235,12 +239,13 @@ impl Files for MemFiles {
             (λ _. self.new ≡ after_unmade_file self.old) }
     {
         if self.count_call() {
+            self.count_fault();
             return Err(Failed);
         }
         match self.make(alloc, name) {
             Ok(out) => Ok(out),
             Err(_) => {
-                self.faults = self.faults.saturating_add(1);
+                self.count_fault();
                 self.wants = self.wants.saturating_add(1);
                 Err(Failed)
             }
