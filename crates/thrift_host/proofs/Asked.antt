@@ -2,27 +2,26 @@
 use Rattle.std.proofs.Common.{◌≡◌, ℕ, List, Option, Some, sym, subst}
 use Rattle.call_rules.specs.Handling.{ServiceState}
 use Rattle.command_line.specs.Words.{PlainCommand, checks}
-use Rattle.port_calls.specs.Called.{CallChange}
 use Rattle.thrift_host.specs.declared.status.Status.{Status}
 use Rattle.thrift_host.specs.Checks.{MeansCheck, SaysCheck}
-use Rattle.thrift_host.specs.CommandSteps.{CountsTell, EndsCommand}
-use Rattle.thrift_host.specs.Complete.{HostCounts}
-use Rattle.thrift_host.specs.Errors.{Errors}
-use Rattle.thrift_host.specs.Serving.{HostChange, IsPlaceKept}
+use Rattle.thrift_host.specs.CommandSteps.{EndsCommand}
+use Rattle.thrift_host.specs.Counts.{CountsTell}
+use Rattle.thrift_host.specs.Serving.{IsPlaceKept}
+use Rattle.thrift_host.specs.Surroundings.{Surroundings, streams_of, place_of, dialled_of, errors_of}
 
-pub ends_asked : (words : Option PlainCommand) (command : PlainCommand) (handlers : List ServiceState) (ended : Status) (c : HostChange) (dialled : CallChange) (e : Errors)
-    (n : HostCounts) → words ≡ Some command → EndsCommand (Some command) handlers ended c dialled e n → EndsCommand words handlers ended c dialled e n
-ends_asked words command handlers ended c dialled e n is h = subst (λ w. EndsCommand w handlers ended c dialled e n) (sym is) h
+pub ends_asked : (words : Option PlainCommand) (command : PlainCommand) (handlers : List ServiceState) (before after : Surroundings) (ended : Status) → words ≡ Some command
+    → EndsCommand (Some command) handlers before after ended → EndsCommand words handlers before after ended
+ends_asked words command handlers before after ended is h = subst (λ w. EndsCommand w handlers before after ended) (sym is) h
 
 -- a check, whose name was lent
-pub ends_check : (idl lent : List ℕ) (handlers : List ServiceState) (ended : Status) (c : HostChange) (dialled : CallChange) (e : Errors) (n : HostCounts) → lent ≡ idl
-    → MeansCheck c.place.files_before lent ended c.streams → SaysCheck c.place.files_before lent ended e → IsPlaceKept c.place → dialled.dialled ≡ dialled.dialled_before
-    → CountsTell n ended → EndsCommand (Some (checks idl)) handlers ended c dialled e n
-ends_check idl lent handlers ended c dialled e n same means says place called counts =
+pub ends_check : (idl lent : List ℕ) (handlers : List ServiceState) (before after : Surroundings) (ended : Status) → lent ≡ idl
+    → MeansCheck before.files.held lent ended (streams_of before after) → SaysCheck before.files.held lent ended (errors_of before after) → IsPlaceKept (place_of before after)
+    → (dialled_of before after).dialled ≡ (dialled_of before after).dialled_before → CountsTell before after ended → EndsCommand (Some (checks idl)) handlers before after ended
+ends_check idl lent handlers before after ended same means says place called counts =
     record {
-      means = subst (λ i. MeansCheck c.place.files_before i ended c.streams) same means;
-      errors = subst (λ i. SaysCheck c.place.files_before i ended e) same says;
-      place = place;
+      means = subst (λ i. MeansCheck before.files.held i ended (streams_of before after)) same means;
+      said = subst (λ i. SaysCheck before.files.held i ended (errors_of before after)) same says;
       called = called;
+      kept = place;
       counts = counts;
     }

@@ -1,6 +1,5 @@
 -- Commands that can't but be done, where nothing fails and memory suffices.
 use Rattle.std.specs.Prelude.{◌≡◌, ◌⊎◌, ℕ, true, false, List, Option, None, Some, IsSome, Ok}
-use Rattle.streams.specs.Cause.{Rose}
 use Rattle.streams.specs.Files.{File}
 use Rattle.call_rules.specs.Handling.{ServiceState}
 use Rattle.schema.specs.PlainSchema.{PlainSchema}
@@ -11,30 +10,9 @@ use Rattle.script_model.specs.ScriptLines.{ScriptPlan}
 use Rattle.script_text.specs.Reading.{script_of_text}
 use Rattle.recorded_runs.specs.Recorded.{ScriptReading}
 use Rattle.thrift_host.specs.Runs.{AskedRun, IsArranged}
-use Rattle.thrift_host.specs.Serving.{HostChange}
+use Rattle.thrift_host.specs.Surroundings.{Surroundings}
 use Rattle.thrift_host.specs.Workloads.{asked_workload}
 use Rattle.thrift_host.specs.Top.{asked_run}
-
--- How often had failed, before a command and then: the files, the input, the output and the binder; and the sinks that came back to the files.
-pub record HostCounts : Type 0 where
-  pub files_before : ℕ
-  pub files : ℕ
-  pub input_before : ℕ
-  pub input : ℕ
-  pub output_before : ℕ
-  pub output : ℕ
-  pub binder_before : ℕ
-  pub binder : ℕ
-  pub sinks_before : ℕ
-  pub sinks : ℕ
-
--- None of these counts rose. One that stands at its end tells nothing.
-pub record NoneRose (n : HostCounts) : Type 0 where
-  pub files : Rose n.files_before n.files → ⊥
-  pub input : Rose n.input_before n.input → ⊥
-  pub output : Rose n.output_before n.output → ⊥
-  pub binder : Rose n.binder_before n.binder → ⊥
-  pub sinks : Rose n.sinks_before n.sinks → ⊥
 
 -- the files tell, or the IDL is the one that the program holds
 abbrev pub IsIdlTold : Option (List File) → List ℕ → Type 0
@@ -66,14 +44,14 @@ pub record IsGoodInput (script_in : ScriptReading) (left_before : Option (List �
 
 -- The words are a command, and what it needs is there: what can be wrong with IDL, pairs, default, handlers and input isn't. What a call needs stands elsewhere, since a reply may
 -- be refused.
-abbrev pub IsWellAsked : Option PlainCommand → List ServiceState → HostChange → Type 0
-IsWellAsked (Some (checks idl)) handlers c = IsGoodIdl c.place.files_before idl
-IsWellAsked (Some (compares old new)) handlers c = IsGoodChange c.place.files_before old new
-IsWellAsked (Some (rehearses says)) handlers c =
-    IsRunReady (asked_run says c.place.files_before handlers) × IsGoodInput (script_of_text says.workers true) c.streams.left_before
-IsWellAsked (Some (records says)) handlers c =
-    IsRunReady (asked_run says c.place.files_before handlers) × IsGoodInput (script_of_text says.workers false) c.streams.left_before
-IsWellAsked (Some (serves says port accept journal)) handlers c = IsRunReady (asked_run says c.place.files_before handlers)
-IsWellAsked (Some (runs seed size workers)) handlers c = IsRunReady (asked_workload workers c.place.files_before handlers)
-IsWellAsked (Some (calls asking)) handlers c = ⊥
-IsWellAsked None handlers c = ⊥
+abbrev pub IsWellAsked : Option PlainCommand → List ServiceState → Surroundings → Type 0
+IsWellAsked (Some (checks idl)) handlers before = IsGoodIdl before.files.held idl
+IsWellAsked (Some (compares old new)) handlers before = IsGoodChange before.files.held old new
+IsWellAsked (Some (rehearses says)) handlers before =
+    IsRunReady (asked_run says before.files.held handlers) × IsGoodInput (script_of_text says.workers true) before.input.left
+IsWellAsked (Some (records says)) handlers before =
+    IsRunReady (asked_run says before.files.held handlers) × IsGoodInput (script_of_text says.workers false) before.input.left
+IsWellAsked (Some (serves says port accept journal)) handlers before = IsRunReady (asked_run says before.files.held handlers)
+IsWellAsked (Some (runs seed size workers)) handlers before = IsRunReady (asked_workload workers before.files.held handlers)
+IsWellAsked (Some (calls asking)) handlers before = ⊥
+IsWellAsked None handlers before = ⊥

@@ -5,8 +5,11 @@ pub mod Runs
 pub mod Serving
 pub mod Workloads
 pub mod Calls
+pub mod Surroundings
 pub mod Top
+pub mod Counts
 pub mod Complete
+pub mod Hosts
 pub mod Steps
 pub mod CompatSteps
 pub mod CallSteps

@@ -6,8 +6,8 @@ ghost use Rattle.command_line.specs.Answering.{plain_served};
 ghost use Rattle.command_line.specs.Bounds.{KeepsServedBounds};
 ghost use Rattle.command_line.specs.Words.{words_of};
 ghost use Rattle.thrift_host.specs.CommandSteps.{EndsCommand};
-ghost use Rattle.thrift_host.specs.Complete.{IsWellAsked, NoneRose};
-ghost use Rattle.thrift_host.specs.Top.{Means, MeansCalled, Says, KeepsPlace, asked_run, asked_place};
+ghost use Rattle.thrift_host.specs.Hosts.{Hosts};
+ghost use Rattle.thrift_host.specs.Top.{asked_run, asked_place};
 ghost use Rattle.thrift_host.specs.Runs.{MeansRun, SaysRun, SaysUnarranged, rehearsing, recording};
 ghost use Rattle.thrift_host.specs.Serving.{MeansServing, host_change, place_change};
 ghost use Rattle.thrift_host.specs.Workloads.{MeansWorkload, asked_workload};
@@ -62,65 +62,24 @@ pub fn host<
     gate: &G,
     handlers: Vec<H>,
 ) -> Status
-    // Usage comes exactly where the words are no command, but for want of memory.
-    // An IDL is checked: Done says that the text of its schema was added to the output, and nothing else. It and IdlRefused come exactly by the
-    // files, since each IDL has one verdict. Nothing is read of the input.
-    // An IDL is compared with the one that comes after it: Done says that both have schemas of which the second reads what the first writes and calls it, and that
-    // `compatible` was added to the output; Incompatible says that there is a first break, and that its line was added.
-    // A script is run: Done says that the IDL has a schema, to which and to handlers the pairs are bound, that the input is a script, read to its end,
-    // and that the bytes added to the output are the report of a run of it, whose tape, journal and causes meet the headline at the office of these, from
-    // the memories of the handlers, and which the script feeds. Of a rehearsal, where no connection has ended for want of memory, it is the one that the
-    // script determines; by a loop with workers it is one of those that keep to the budget and to as many connections as may be open. IdlRefused comes
-    // exactly by the files, BindRefused by the schema, the pairs and the handlers, and ScriptRefused by the input.
-    // A port is served: Done says the same of IDL and pairs, that connections were served until all was over, that one tape more came back to the binder, that the
-    // journal's file holds the lines of the calls and nothing else, and that the summary was added to the output; and that tape, calls and causes meet the headline.
-    // A workload is run: Done says that the summary of its seed and size was added to the output, and nothing else.
-    // A method is called at a port: Done says that the frame of the call was sent there through one pipe, which was hung up, and that the line of the one frame that came back was
-    // added to the output, or of a call without a reply. CallRefused says that no port was dialled, and ReplyRefused that what came back is no answer.
-    ensures means { Means (words_of (map string_bytes words.now)) (map H.service handlers.items) result
-        (host_change (S.left input.old) (S.left input.new) (K.taken output.old) (K.taken output.new)
-        (place_change (F.files files.old) (F.files files.new) (F.sink_faults files.old) (F.sink_faults files.new) (B.past binder.old) (B.past binder.new))) }
-    ensures errors { Says (words_of (map string_bytes words.now)) (map H.service handlers.items) result
-        (host_change (S.left input.old) (S.left input.new) (K.taken output.old) (K.taken output.new)
-        (place_change (F.files files.old) (F.files files.new) (F.sink_faults files.old) (F.sink_faults files.new) (B.past binder.old) (B.past binder.new)))
-        (record { taken_before = E.taken errors.old; taken = E.taken errors.new; faults_before = E.faults errors.old; faults = E.faults errors.new }) }
-    ensures place { KeepsPlace (words_of (map string_bytes words.now))
-        (place_change (F.files files.old) (F.files files.new) (F.sink_faults files.old) (F.sink_faults files.new) (B.past binder.old) (B.past binder.new)) }
-    ensures called { MeansCalled (words_of (map string_bytes words.now)) (F.files files.old) result
+    // What surrounds the program, before and after: `Hosts` says what a status means, what was said, dialled and kept, which faults were met, and when a
+    // command can't but be done.
+    ensures { Hosts (words_of (map string_bytes words.now)) (map H.service handlers.items)
         (record {
-          dialled_before = record { called = B.called binder.old; handed = B.handed binder.old };
-          dialled = record { called = B.called binder.new; handed = B.handed binder.new };
-          taken_before = K.taken output.old;
-          taken = K.taken output.new;
+          files = record { held = F.files files.old; faults = F.faults files.old; sink_faults = F.sink_faults files.old };
+          input = record { left = S.left input.old; faults = S.faults input.old };
+          output = record { taken = K.taken output.old; faults = K.faults output.old };
+          errors = record { taken = E.taken errors.old; faults = E.faults errors.old };
+          binder = record { past = B.past binder.old; called = B.called binder.old; handed = B.handed binder.old; faults = B.faults binder.old };
         })
-        (record { taken_before = E.taken errors.old; taken = E.taken errors.new; faults_before = E.faults errors.old; faults = E.faults errors.new }) }
-    ensures file_fault { result ≡ Status.FileFault → Rose (F.faults files.old) (F.faults files.new) }
-    ensures read_fault { result ≡ Status.ReadFault → Rose (S.faults input.old) (S.faults input.new) }
-    ensures write_fault { result ≡ Status.WriteFault → Rose (K.faults output.old) (K.faults output.new) }
-    ensures net_fault { result ≡ Status.NetFault → Rose (B.faults binder.old) (B.faults binder.new) }
-    ensures journal_fault { result ≡ Status.JournalFault → Rose (F.sink_faults files.old) (F.sink_faults files.new) }
-    // Done says that no fault was met: no count rose but that of the errors.
-    ensures files_kept { result ≡ Status.Done → F.faults files.new ≡ F.faults files.old }
-    ensures input_kept { result ≡ Status.Done → S.faults input.new ≡ S.faults input.old }
-    ensures output_kept { result ≡ Status.Done → K.faults output.new ≡ K.faults output.old }
-    ensures binder_kept { result ≡ Status.Done → B.faults binder.new ≡ B.faults binder.old }
-    ensures sinks_kept { result ≡ Status.Done → F.sink_faults files.new ≡ F.sink_faults files.old }
-    // Where the words are a command, and what it needs of IDL, pairs, default, handlers and input is there and told, it is done unless a count rose, or memory ran out.
-    ensures complete { IsWellAsked (words_of (map string_bytes words.now)) (map H.service handlers.items)
-        (host_change (S.left input.old) (S.left input.new) (K.taken output.old) (K.taken output.new)
-        (place_change (F.files files.old) (F.files files.new) (F.sink_faults files.old) (F.sink_faults files.new) (B.past binder.old) (B.past binder.new)))
-        → NoneRose (record {
-          files_before = F.faults files.old;
-          files = F.faults files.new;
-          input_before = S.faults input.old;
-          input = S.faults input.new;
-          output_before = K.faults output.old;
-          output = K.faults output.new;
-          binder_before = B.faults binder.old;
-          binder = B.faults binder.new;
-          sinks_before = F.sink_faults files.old;
-          sinks = F.sink_faults files.new;
-        }) → (result ≡ Status.Done) ⊎ (result ≡ Status.NoMemory) }
+        (record {
+          files = record { held = F.files files.new; faults = F.faults files.new; sink_faults = F.sink_faults files.new };
+          input = record { left = S.left input.new; faults = S.faults input.new };
+          output = record { taken = K.taken output.new; faults = K.faults output.new };
+          errors = record { taken = E.taken errors.new; faults = E.faults errors.new };
+          binder = record { past = B.past binder.new; called = B.called binder.new; handed = B.handed binder.new; faults = B.faults binder.new };
+        })
+        result }
 {
     an_idl_has_one_verdict();
     what_is_bound_is_not_refused();
@@ -152,28 +111,22 @@ fn command_of<
     gate: &G,
     handlers: Vec<H>,
 ) -> Status
-    ensures { EndsCommand (words_of (map string_bytes words.now)) (map H.service handlers.items) result
-        (host_change (S.left input.old) (S.left input.new) (K.taken output.old) (K.taken output.new)
-        (place_change (F.files files.old) (F.files files.new) (F.sink_faults files.old) (F.sink_faults files.new) (B.past binder.old) (B.past binder.new)))
+    ensures { EndsCommand (words_of (map string_bytes words.now)) (map H.service handlers.items)
         (record {
-          dialled_before = record { called = B.called binder.old; handed = B.handed binder.old };
-          dialled = record { called = B.called binder.new; handed = B.handed binder.new };
-          taken_before = K.taken output.old;
-          taken = K.taken output.new;
+          files = record { held = F.files files.old; faults = F.faults files.old; sink_faults = F.sink_faults files.old };
+          input = record { left = S.left input.old; faults = S.faults input.old };
+          output = record { taken = K.taken output.old; faults = K.faults output.old };
+          errors = record { taken = E.taken errors.old; faults = E.faults errors.old };
+          binder = record { past = B.past binder.old; called = B.called binder.old; handed = B.handed binder.old; faults = B.faults binder.old };
         })
-        (record { taken_before = E.taken errors.old; taken = E.taken errors.new; faults_before = E.faults errors.old; faults = E.faults errors.new })
         (record {
-          files_before = F.faults files.old;
-          files = F.faults files.new;
-          input_before = S.faults input.old;
-          input = S.faults input.new;
-          output_before = K.faults output.old;
-          output = K.faults output.new;
-          binder_before = B.faults binder.old;
-          binder = B.faults binder.new;
-          sinks_before = F.sink_faults files.old;
-          sinks = F.sink_faults files.new;
-        }) }
+          files = record { held = F.files files.new; faults = F.faults files.new; sink_faults = F.sink_faults files.new };
+          input = record { left = S.left input.new; faults = S.faults input.new };
+          output = record { taken = K.taken output.new; faults = K.faults output.new };
+          errors = record { taken = E.taken errors.new; faults = E.faults errors.new };
+          binder = record { past = B.past binder.new; called = B.called binder.new; handed = B.handed binder.new; faults = B.faults binder.new };
+        })
+        result }
 {
     match read_words(alloc, words) {
         Ok(Command::Check(idl)) => check(alloc, files, output, errors, idl.as_str()),

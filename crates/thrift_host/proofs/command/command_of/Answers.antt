@@ -14,8 +14,8 @@ use Rattle.thrift_host.proofs.command.command_of.Goals as goal
 
 pub returns-in-Ok-Check : goal.returns-in-Ok-Check
 returns-in-Ok-Check g c =
-    ends_asked _ _ _ c.check.result _ _ _ _ (c.in-Ok-Check.ensures.answers ∙ ap (λ command. Some (plain_command command)) c.in-Ok-Check.field-0-is)
-    (ends_check c.in-Ok-Check.idl _ _ c.check.result _ _ _ _ c.as_str.ensures (c.check.ensures.means (g.S.Source.left c.args.input.now)) c.check.ensures.said
+    ends_asked _ _ _ _ _ c.check.result (c.in-Ok-Check.ensures.answers ∙ ap (λ command. Some (plain_command command)) c.in-Ok-Check.field-0-is)
+    (ends_check c.in-Ok-Check.idl _ _ _ _ c.check.result c.as_str.ensures (c.check.ensures.means (g.S.Source.left c.args.input.now)) c.check.ensures.said
     (c.check.ensures.files, refl) refl
     (record {
       files = c.check.ensures.file_fault;
@@ -36,11 +36,11 @@ returns-in-Ok-Compat g c =
     let s : Streams =
     (record { left_before = None; left = None; taken_before = g.K.Sink.taken c.args.output.now; taken = g.K.Sink.taken c.compare.new.output }) in
     let means = c.compare.ensures.means None in
-    ends_asked _ _ _ c.compare.result _ _ _ _ (c.in-Ok-Compat.ensures.answers ∙ ap (λ command. Some (plain_command command)) c.in-Ok-Compat.field-0-is)
+    ends_asked _ _ _ _ _ c.compare.result (c.in-Ok-Compat.ensures.answers ∙ ap (λ command. Some (plain_command command)) c.in-Ok-Compat.field-0-is)
     (record {
       means = c.compare.ensures.means (g.S.Source.left c.args.input.now);
-      errors = c.compare.ensures.said;
-      place = (c.compare.ensures.files, refl);
+      said = c.compare.ensures.said;
+      kept = (c.compare.ensures.files, refl);
       called = refl;
       counts = record {
         files = c.compare.ensures.file_fault;
@@ -58,11 +58,11 @@ returns-in-Ok-Compat g c =
 
 pub returns-in-Ok-Call : goal.returns-in-Ok-Call
 returns-in-Ok-Call g c =
-    ends_asked _ _ _ c.call.result _ _ _ _ (c.in-Ok-Call.ensures.answers ∙ ap (λ command. Some (plain_command command)) c.in-Ok-Call.field-0-is)
+    ends_asked _ _ _ _ _ c.call.result (c.in-Ok-Call.ensures.answers ∙ ap (λ command. Some (plain_command command)) c.in-Ok-Call.field-0-is)
     (record {
       means = refl;
-      errors = tt;
-      place = (c.call.ensures.files, c.call.ensures.past);
+      said = tt;
+      kept = (c.call.ensures.files, c.call.ensures.past);
       called = c.call.ensures.means;
       counts = record {
         files = c.call.ensures.file_fault;
@@ -80,11 +80,11 @@ returns-in-Ok-Call g c =
 
 pub returns-in-Ok-Rehearse : goal.returns-in-Ok-Rehearse
 returns-in-Ok-Rehearse g c =
-    ends_asked _ _ _ c.rehearse_and_say.result _ _ _ _ (c.in-Ok-Rehearse.ensures.answers ∙ ap (λ command. Some (plain_command command)) c.in-Ok-Rehearse.field-0-is)
+    ends_asked _ _ _ _ _ c.rehearse_and_say.result (c.in-Ok-Rehearse.ensures.answers ∙ ap (λ command. Some (plain_command command)) c.in-Ok-Rehearse.field-0-is)
     (record {
       means = c.rehearse_and_say.ensures.means;
-      errors = c.rehearse_and_say.ensures.errors;
-      place = (c.rehearse_and_say.ensures.files, refl);
+      said = c.rehearse_and_say.ensures.errors;
+      kept = (c.rehearse_and_say.ensures.files, refl);
       called = refl;
       counts = record {
         files = c.rehearse_and_say.ensures.file_fault;
@@ -102,11 +102,11 @@ returns-in-Ok-Rehearse g c =
 
 pub returns-in-Ok-Record : goal.returns-in-Ok-Record
 returns-in-Ok-Record g c =
-    ends_asked _ _ _ c.record_and_say.result _ _ _ _ (c.in-Ok-Record.ensures.answers ∙ ap (λ command. Some (plain_command command)) c.in-Ok-Record.field-0-is)
+    ends_asked _ _ _ _ _ c.record_and_say.result (c.in-Ok-Record.ensures.answers ∙ ap (λ command. Some (plain_command command)) c.in-Ok-Record.field-0-is)
     (record {
       means = c.record_and_say.ensures.means;
-      errors = c.record_and_say.ensures.errors;
-      place = (c.record_and_say.ensures.files, refl);
+      said = c.record_and_say.ensures.errors;
+      kept = (c.record_and_say.ensures.files, refl);
       called = refl;
       counts = record {
         files = c.record_and_say.ensures.file_fault;
@@ -124,7 +124,7 @@ returns-in-Ok-Record g c =
 
 pub returns-in-Ok-Serve : goal.returns-in-Ok-Serve
 returns-in-Ok-Serve g c =
-    ends_asked _ _ _ c.serve_and_say.result _ _ _ _ (c.in-Ok-Serve.ensures.answers ∙ ap (λ command. Some (plain_command command)) c.in-Ok-Serve.field-0-is)
+    ends_asked _ _ _ _ _ c.serve_and_say.result (c.in-Ok-Serve.ensures.answers ∙ ap (λ command. Some (plain_command command)) c.in-Ok-Serve.field-0-is)
     (record {
       means =
           serves_asked _ _ _ _ _ (map g.H.Handler.service c.args.handlers.items) c.serve_and_say.result
@@ -132,8 +132,8 @@ returns-in-Ok-Serve g c =
           (place_change (g.F.Files.files c.args.files.now) (g.F.Files.files c.serve_and_say.new.files) (g.F.Files.sink_faults c.args.files.now)
           (g.F.Files.sink_faults c.serve_and_say.new.files) (g.B.Binder.past c.args.binder.now) (g.B.Binder.past c.serve_and_say.new.binder)))
           refl c.as_str-in-Ok-Serve.ensures (c.serve_and_say.ensures.means (g.S.Source.left c.args.input.now));
-      errors = c.serve_and_say.ensures.errors;
-      place = tt;
+      said = c.serve_and_say.ensures.errors;
+      kept = tt;
       called = c.serve_and_say.ensures.called;
       counts = record {
         files = c.serve_and_say.ensures.file_fault;
@@ -151,11 +151,11 @@ returns-in-Ok-Serve g c =
 
 pub returns-in-Ok-Workload : goal.returns-in-Ok-Workload
 returns-in-Ok-Workload g c =
-    ends_asked _ _ _ c.work_and_say.result _ _ _ _ (c.in-Ok-Workload.ensures.answers ∙ ap (λ command. Some (plain_command command)) c.in-Ok-Workload.field-0-is)
+    ends_asked _ _ _ _ _ c.work_and_say.result (c.in-Ok-Workload.ensures.answers ∙ ap (λ command. Some (plain_command command)) c.in-Ok-Workload.field-0-is)
     (record {
       means = c.work_and_say.ensures.means (g.S.Source.left c.args.input.now);
-      errors = c.work_and_say.ensures.errors;
-      place = (c.work_and_say.ensures.files, refl);
+      said = c.work_and_say.ensures.errors;
+      kept = (c.work_and_say.ensures.files, refl);
       called = refl;
       counts = record {
         files = c.work_and_say.ensures.file_fault;
@@ -176,8 +176,8 @@ returns-in-Err g c =
     let ended = of_words c.in-Err.fault c.end_without_command.result _ c.end_without_command.ensures in
     record {
       means = unread_means c.in-Err.fault c.end_without_command.result _ c.end_without_command.ensures _ _ _ c.in-Err.ensures.answers ((refl, refl), (refl, refl));
-      errors = unread_says c.in-Err.fault c.end_without_command.result _ c.end_without_command.ensures _ _ _ c.in-Err.ensures.answers;
-      place = unread_place _ _ (refl, refl);
+      said = unread_says c.in-Err.fault c.end_without_command.result _ c.end_without_command.ensures _ _ _ c.in-Err.ensures.answers;
+      kept = unread_place _ _ (refl, refl);
       called = unread_called c.in-Err.fault c.end_without_command.result _ _ _ c.end_without_command.ensures (refl, refl) _ c.in-Err.ensures.answers;
       counts = record {
         files = λ is. absurd (not_of_words _ _ ended (λ h. h) is);

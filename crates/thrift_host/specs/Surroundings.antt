@@ -1,0 +1,79 @@
+-- What surrounds the program.
+use Rattle.std.specs.Prelude.{ℕ, List, Option}
+use Rattle.streams.specs.Files.{File}
+use Rattle.outside.specs.Binding.{PastLinks, HandedOut}
+use Rattle.outside.specs.Calling.{PastPipe}
+use Rattle.port_calls.specs.Called.{CallChange}
+use Rattle.recorded_runs.specs.Recorded.{Streams}
+use Rattle.port_serving.specs.Places.{PlaceChange}
+use Rattle.thrift_host.specs.Errors.{Errors}
+use Rattle.thrift_host.specs.Serving.{HostChange}
+
+-- the files, where they are told; how many calls of theirs failed, and how many sinks came back that had failed
+pub record FilesState : Type 0 where
+  pub held : Option (List File)
+  pub faults : ℕ
+  pub sink_faults : ℕ
+
+-- what reads of the input will still give, where that is told; and how many failed
+pub record InputState : Type 0 where
+  pub left : Option (List ℕ)
+  pub faults : ℕ
+
+-- what the output has taken, where that is told; and how many writes failed
+pub record OutputState : Type 0 where
+  pub taken : Option (List ℕ)
+  pub faults : ℕ
+
+-- the links that came back and the pipes that were hung up, where they are told; how many of both were handed out and have come back; and how many faults were counted
+pub record BinderState : Type 0 where
+  pub past : Option (List PastLinks)
+  pub called : Option (List PastPipe)
+  pub handed : HandedOut
+  pub faults : ℕ
+
+-- all of them, at one time
+pub record Surroundings : Type 0 where
+  pub files : FilesState
+  pub input : InputState
+  pub output : OutputState
+  pub errors : OutputState
+  pub binder : BinderState
+
+module _ (before after : Surroundings) where
+  -- what was read and written
+  abbrev pub streams_of : Streams
+  streams_of = record { left_before = before.input.left; left = after.input.left; taken_before = before.output.taken; taken = after.output.taken }
+
+  -- what became of the files, and of links
+  abbrev pub place_of : PlaceChange
+  place_of = record {
+    files_before = before.files.held;
+    files = after.files.held;
+    sink_faults_before = before.files.sink_faults;
+    sink_faults = after.files.sink_faults;
+    past_before = before.binder.past;
+    past = after.binder.past;
+  }
+
+  -- both
+  abbrev pub change_of : HostChange
+  change_of = record { streams = streams_of; place = place_of }
+
+  -- what was dialled, and written
+  abbrev pub dialled_of : CallChange
+  dialled_of = record {
+    dialled_before = record { called = before.binder.called; handed = before.binder.handed };
+    dialled = record { called = after.binder.called; handed = after.binder.handed };
+    taken_before = before.output.taken;
+    taken = after.output.taken;
+  }
+
+  -- what was said
+  abbrev pub errors_of : Errors
+  errors_of = record {
+    taken_before = before.errors.taken;
+    taken = after.errors.taken;
+    faults_before = before.errors.faults;
+    faults = after.errors.faults;
+  }
