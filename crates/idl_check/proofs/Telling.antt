@@ -122,3 +122,8 @@ pub never_rises : (P : Type 0) (result : Result Schema NoSchema) → IfErr resul
     → IfErr result (λ reason. is_file_fault reason ≡ true → P)
 never_rises P (Ok schema) h = tt
 never_rises P (Err reason) h = λ e. absurd (let f : false ≡ true = sym h ∙ e in let g : ⊥ = cc in g)
+
+-- what holds in any case holds of an answer without a file fault
+pub quiet_on : {A P : Type 0} (result : Result A NoSchema) → P → IfErr result (λ reason. is_file_fault reason ≡ false → P)
+quiet_on (Ok a) p = tt
+quiet_on (Err reason) p = λ e. p

@@ -38,6 +38,7 @@ pub fn program_text<F: Files>(alloc: Global, files: &mut F, idl: &str) -> Result
     ensures later { F.faults files.old ≤ F.faults files.new }
     ensures rose { IfErr result (λ reason. is_file_fault reason ≡ true → Rose (F.faults files.old) (F.faults files.new)) }
     ensures kept { OnOk result (F.faults files.new ≡ F.faults files.old) }
+    ensures quiet { IfErr result (λ reason. is_file_fault reason ≡ false → F.faults files.new ≡ F.faults files.old) }
 {
     let schema = program_schema(alloc, files, idl)?;
     Ok(text_of(alloc, schema)?)
@@ -47,7 +48,7 @@ pub fn program_text<F: Files>(alloc: Global, files: &mut F, idl: &str) -> Result
 /// that the program holds.
 ///
 /// # Errors
-/// `Refused` for the first fault, in the order of loading or else of the checks; `FileFault` only where the count of faults rose.
+/// `Refused` for the first fault, in the order of loading or else of the checks; `FileFault` just where the count of faults rose.
 pub fn program_schema<F: Files>(alloc: Global, files: &mut F, idl: &str) -> Result<Schema, NoSchema>
     ensures schema { TellsSchema (IsIdlVerdict (F.files files.old) idl.now) (IsUnreadIdl (F.files files.old) idl.now) result }
     ensures same { F.files files.new ≡ F.files files.old }
@@ -55,6 +56,7 @@ pub fn program_schema<F: Files>(alloc: Global, files: &mut F, idl: &str) -> Resu
     ensures later { F.faults files.old ≤ F.faults files.new }
     ensures rose { IfErr result (λ reason. is_file_fault reason ≡ true → Rose (F.faults files.old) (F.faults files.new)) }
     ensures kept { OnOk result (F.faults files.new ≡ F.faults files.old) }
+    ensures quiet { IfErr result (λ reason. is_file_fault reason ≡ false → F.faults files.new ≡ F.faults files.old) }
 {
     if idl == "@tutorial" {
         return tutorial_schema(alloc);
@@ -84,6 +86,7 @@ fn schema_among<F: Files>(alloc: Global, files: &mut F, main: &str) -> Result<Sc
     ensures later { F.faults files.old ≤ F.faults files.new }
     ensures rose { IfErr result (λ reason. is_file_fault reason ≡ true → Rose (F.faults files.old) (F.faults files.new)) }
     ensures kept { OnOk result (F.faults files.new ≡ F.faults files.old) }
+    ensures quiet { IfErr result (λ reason. is_file_fault reason ≡ false → F.faults files.new ≡ F.faults files.old) }
 {
     each_file_is_read_as_one_thing();
     match load(alloc, files, main) {

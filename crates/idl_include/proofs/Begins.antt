@@ -207,7 +207,7 @@ pub too_many_ends : (levels : ℕ) (above : List (List ℕ)) (told : Option (Lis
     → StopsWith name nowhere kinds.TooMany stop
     → LoadEnds (load_stage told faults begun) (load_stage told faults begun) (file_left (suc levels) above name begun) stop
 too_many_ends levels above told faults name begun stop full s =
-    ends_with _ _ _ name nowhere kinds.TooMany too_many stop (moves_to told told faults faults begun begun refl (omega arith) refl) s refl refl refl
+    ends_with _ _ _ name nowhere kinds.TooMany too_many stop (moves_to told told faults faults begun begun refl (omega arith) refl) refl s refl refl refl
     (λ reader. too_many_is levels above name begun reader full)
 
 pub no_level_ends : (above : List (List ℕ)) (told : Option (List File)) (faults : ℕ) (name : List ℕ) (begun : List IdlFile) (levels : ℕ) (stop : LoadStop) → levels ≡ 0
@@ -215,7 +215,7 @@ pub no_level_ends : (above : List (List ℕ)) (told : Option (List File)) (fault
     → LoadEnds (load_stage told faults begun) (load_stage told faults begun) (file_left levels above name begun) stop
 no_level_ends above told faults name begun levels stop e s =
     let P : ℕ → Type 0 = λ n. LoadEnds (load_stage told faults begun) (load_stage told faults begun) (file_left n above name begun) stop in
-    let here : P 0 = ends_with _ _ _ name nowhere kinds.TooMany too_many stop (moves_to told told faults faults begun begun refl (omega arith) refl) s refl refl refl
+    let here : P 0 = ends_with _ _ _ name nowhere kinds.TooMany too_many stop (moves_to told told faults faults begun begun refl (omega arith) refl) refl s refl refl refl
     (λ reader. no_level_is above name begun reader) in
     subst P (sym e) here
 
@@ -249,12 +249,13 @@ read_unread levels above told name begun (stops.At fault) room new h = λ file.
 
 pub read_ends : (levels : ℕ) (above : List (List ℕ)) (told other : Option (List File)) (faults now : ℕ) (name : List ℕ) (begun : List IdlFile) (stop : LoadStop) → length begun < most_files
     → IsNewName name begun → other ≡ told → faults ≤ now → ((reader : FileReader) → Tells told reader → IsRead name (reader name) (Err stop)) → IsUnreadAt told name stop
-    → (is_unread stop ≡ true → Rose faults now) → is_wrong_want stop ≡ false
+    → (is_unread stop ≡ true → Rose faults now) → (is_unread stop ≡ false → now ≡ faults) → is_wrong_want stop ≡ false
     → LoadEnds (load_stage told faults begun) (load_stage other now begun) (file_left (suc levels) above name begun) stop
-read_ends levels above told other faults now name begun stop room new same later tells fails rose outer = record {
+read_ends levels above told other faults now name begun stop room new same later tells fails rose quiet outer = record {
   moves = moves_to told other faults now begun begun same later refl;
   flaw = λ reader t r. read_flaw levels above name begun reader stop room (tells reader t);
   read = read_unread levels above told name begun stop room new fails;
   rose = rose;
+  quiet = quiet;
   outer = outer;
 }

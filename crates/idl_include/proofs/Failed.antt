@@ -11,7 +11,7 @@ use Rattle.idl_include.specs.declared.faults.LoadKind.{LoadKind}
 use Rattle.idl_include.specs.declared.faults.LoadKind.TheVariants as kinds
 use Rattle.idl_include.specs.declared.faults.LoadStop.{LoadStop}
 use Rattle.idl_include.specs.declared.faults.LoadStop.TheVariants as stops
-use Rattle.idl_include.specs.Loads.{StopsWith, IsUnread, IsUnreadAt, IsReadableFile, is_file, is_unread, is_wrong_want}
+use Rattle.idl_include.specs.Loads.{StopsIn, IsUnread, IsUnreadAt, IsReadableFile, is_file, is_unread, is_wrong_want}
 
 held_within : {A : Type 0} (limit : ℕ) (result : Result A FileFail) (text : List ℕ) (b : Bool) → nat_le (length text) limit ≡ b → (limit < length text → result ≡ Err fails.TooLong)
     → result ≡ Err fails.Failed → b ≡ true
@@ -33,11 +33,11 @@ other_kind : (told : Option (List File)) (name : List ℕ) (stop : LoadStop) →
 other_kind told name stops.NoMemory e = tt
 other_kind told name (stops.At fault) e = λ f. absurd (false≢true (sym e ∙ f))
 
-with_kind : (told : Option (List File)) (name : List ℕ) (stop : LoadStop) (kind : LoadKind) → StopsWith name nowhere kind stop → is_file kind ≡ false → IsUnreadAt told name stop
+with_kind : (told : Option (List File)) (name : List ℕ) (stop : LoadStop) (kind : LoadKind) → StopsIn name kind stop → is_file kind ≡ false → IsUnreadAt told name stop
 with_kind told name stops.NoMemory kind s e = tt
 with_kind told name (stops.At fault) kind s e = λ f. absurd (false≢true (sym e ∙ ap is_file (sym s.2) ∙ f))
 
-with_file : (told : Option (List File)) (name : List ℕ) (stop : LoadStop) → StopsWith name nowhere kinds.File stop → IsReadableFile told name → IsUnreadAt told name stop
+with_file : (told : Option (List File)) (name : List ℕ) (stop : LoadStop) → StopsIn name kinds.File stop → IsReadableFile told name → IsUnreadAt told name stop
 with_file told name stops.NoMemory s r = tt
 with_file told name (stops.At fault) s r = λ f. (s.0, s.1, r)
 

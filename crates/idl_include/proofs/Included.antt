@@ -128,9 +128,9 @@ by_case levels above file of w begun meant reader e =
 pub refused_ends : (levels : ℕ) (above : List (List ℕ)) (file : List ℕ) (of : ℕ) (w : Written) (a : LoadStage) (stop : LoadStop)
     → IsRefusedAt file w.at (include_meant above file w a.begun) stop
     → LoadEnds a a (include_left levels above file of w a.begun) stop
-refused_ends levels above file of w a stops.NoMemory r = ends_for_want a a (include_left levels above file of w a.begun) stops.NoMemory refl (moves_none a)
+refused_ends levels above file of w a stops.NoMemory r = ends_for_want a a (include_left levels above file of w a.begun) stops.NoMemory refl (moves_none a) refl
 refused_ends levels above file of w a (stops.At fault) r =
-    ends_with a a (include_left levels above file of w a.begun) file w.at fault.kind r.2.flaw (stops.At fault) (moves_none a) (r.0, r.1, refl) r.2.told r.2.no_read r.2.no_want
+    ends_with a a (include_left levels above file of w a.begun) file w.at fault.kind r.2.flaw (stops.At fault) (moves_none a) refl (r.0, r.1, refl) r.2.told r.2.no_read r.2.no_want
     (λ reader. by_case levels above file of w a.begun (refused_include r.2.flaw) reader r.2.refused)
 
 pub moves_keeping : (told : Option (List File)) (faults : ℕ) (before after : List IdlFile) → KeepsFiles before after → LoadMoves (load_stage told faults before) (load_stage told faults after)
@@ -190,8 +190,8 @@ new_ends levels above file of w a b name stop meant e h =
     (ends_before a b (file_left levels above name a.begun) next stop h)
 
 -- want of memory after a step that went on
-pub want_behind : (a b c : LoadStage) (other : FileReader → Loaded) (stop : LoadStop) → stop ≡ stops.NoMemory → LoadMoves a b → LoadMoves b c → LoadEnds a c other stop
-want_behind a b c other stop e g h = ends_for_want a c other stop e (moved a b c g h)
+pub want_behind : (a b c : LoadStage) (other : FileReader → Loaded) (stop : LoadStop) → stop ≡ stops.NoMemory → LoadMoves a b → LoadMoves b c → c.faults ≡ a.faults → LoadEnds a c other stop
+want_behind a b c other stop e g h quiet = ends_for_want a c other stop e (moved a b c g h) quiet
 
 pub new_name : (slice begun : List IdlFile) (text name : List ℕ) → slice ≡ begun → name ≡ text → IsNewName text slice → IsNewName name begun
 new_name slice begun text name e f new =

@@ -105,6 +105,7 @@ ends_on a b c was mid stop g h = record {
       subst P (sym (g.comes reader (h.moves.kept reader r))) (h.flaw reader (subst T (sym g.moves.same) t) r);
   read = unread_on a.told b.told c.begun was mid stop g.moves.same (λ reader r. g.comes reader (h.moves.kept reader r)) h.read;
   rose = λ e. rose_from a.faults b.faults c.faults g.moves.later (h.rose e);
+  quiet = λ e. h.quiet e ∙ g.quiet;
   outer = h.outer;
 }
 
@@ -114,6 +115,7 @@ ends_from a b was other stop e h = record {
   flaw = λ reader t r. let P : Loaded → Type 0 = λ come. LoadStopsAt come stop in subst P (sym (e reader)) (h.flaw reader t r);
   read = unread_on a.told a.told b.begun other was stop refl (λ reader r. e reader) h.read;
   rose = h.rose;
+  quiet = h.quiet;
   outer = h.outer;
 }
 
@@ -146,16 +148,17 @@ ends_before a b was next stop h = record {
   flaw = λ reader t r. flaw_before (was reader) (next reader) stop (h.flaw reader t r);
   read = unread_before a.told b.begun was next stop h.read;
   rose = h.rose;
+  quiet = h.quiet;
   outer = h.outer;
 }
 
 -- ---- ends of their own
 
 -- memory ran out
-pub ends_for_want : (a b : LoadStage) (was : FileReader → Loaded) (stop : LoadStop) → stop ≡ stops.NoMemory → LoadMoves a b → LoadEnds a b was stop
-ends_for_want a b was stop e moves =
+pub ends_for_want : (a b : LoadStage) (was : FileReader → Loaded) (stop : LoadStop) → stop ≡ stops.NoMemory → LoadMoves a b → b.faults ≡ a.faults → LoadEnds a b was stop
+ends_for_want a b was stop e moves quiet =
     let P : LoadStop → Type 0 = λ s. LoadEnds a b was s in
-    let here : LoadEnds a b was stops.NoMemory = record { moves = moves; flaw = λ reader t r. tt; read = tt; rose = λ no. absurd (false≢true no); outer = refl } in
+    let here : LoadEnds a b was stops.NoMemory = record { moves = moves; flaw = λ reader t r. tt; read = tt; rose = λ no. absurd (false≢true no); quiet = λ yes. quiet; outer = refl } in
     subst P (sym e) here
 
 not_unread : (told : Option (List File)) (begun : List IdlFile) (was : FileReader → Loaded) (stop : LoadStop) → is_unread stop ≡ false → EndsUnread told begun was stop
@@ -163,13 +166,14 @@ not_unread told begun was stops.NoMemory e = tt
 not_unread told begun was (stops.At fault) e = λ f. absurd (false≢true (sym e ∙ f))
 
 -- at a flaw that is known without a reading
-pub ends_at : (a b : LoadStage) (was : FileReader → Loaded) (stop : LoadStop) → LoadMoves a b → ((reader : FileReader) → LoadStopsAt (was reader) stop)
+pub ends_at : (a b : LoadStage) (was : FileReader → Loaded) (stop : LoadStop) → LoadMoves a b → b.faults ≡ a.faults → ((reader : FileReader) → LoadStopsAt (was reader) stop)
     → is_unread stop ≡ false → is_wrong_want stop ≡ false → LoadEnds a b was stop
-ends_at a b was stop moves flaw file want = record {
+ends_at a b was stop moves quiet flaw file want = record {
   moves = moves;
   flaw = λ reader t r. flaw reader;
   read = not_unread a.told b.begun was stop file;
   rose = λ e. absurd (false≢true (sym file ∙ e));
+  quiet = λ e. quiet;
   outer = want;
 }
 
@@ -189,11 +193,11 @@ with_no_want : (file : List ℕ) (at : Place) (kind : LoadKind) (stop : LoadStop
 with_no_want file at kind stops.NoMemory s e = refl
 with_no_want file at kind (stops.At fault) s e = ap is_inner_want s.2 ∙ e
 
-pub ends_with : (a b : LoadStage) (was : FileReader → Loaded) (file : List ℕ) (at : Place) (kind : LoadKind) (flaw : LoadFlawKind) (stop : LoadStop) → LoadMoves a b → StopsWith file at kind stop
+pub ends_with : (a b : LoadStage) (was : FileReader → Loaded) (file : List ℕ) (at : Place) (kind : LoadKind) (flaw : LoadFlawKind) (stop : LoadStop) → LoadMoves a b → b.faults ≡ a.faults → StopsWith file at kind stop
     → flaw_kind kind ≡ Some flaw → is_file kind ≡ false → is_inner_want kind ≡ false → ((reader : FileReader) → was reader ≡ stopped (record { file = file; at = at; kind = flaw }))
     → LoadEnds a b was stop
-ends_with a b was file at kind flaw stop moves s told read want e =
-    ends_at a b was stop moves (λ reader. stops_with (was reader) file at kind flaw stop s told (e reader))
+ends_with a b was file at kind flaw stop moves quiet s told read want e =
+    ends_at a b was stop moves quiet (λ reader. stops_with (was reader) file at kind flaw stop s told (e reader))
     (with_no_read file at kind stop s read) (with_no_want file at kind stop s want)
 
 -- ---- results

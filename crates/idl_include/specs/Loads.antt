@@ -112,6 +112,11 @@ abbrev pub StopsWith : List ℕ → Place → LoadKind → LoadStop → Type 0
 StopsWith file at kind stops.NoMemory = ⊤
 StopsWith file at kind (stops.At fault) = (fault.file ≡ file) × (fault.at ≡ at) × (fault.kind ≡ kind)
 
+-- a stop is at this fault of a file as a whole
+abbrev pub StopsIn : List ℕ → LoadKind → LoadStop → Type 0
+StopsIn file kind stops.NoMemory = ⊥
+StopsIn file kind (stops.At fault) = (fault.file ≡ file) × (fault.at ≡ nowhere) × (fault.kind ≡ kind)
+
 -- a fault of a file that couldn't be read tells its name, and no place in it
 abbrev pub IsUnreadAt : Option (List File) → List ℕ → LoadStop → Type 0
 IsUnreadAt told name stops.NoMemory = ⊤
@@ -119,9 +124,9 @@ IsUnreadAt told name (stops.At fault) = is_file fault.kind ≡ true → (fault.f
 
 -- how loading ends at a file that isn't read
 abbrev pub IsUnread : List ℕ → FileFail → LoadStop → Type 0
-IsUnread name fails.Absent stop = StopsWith name nowhere kinds.Absent stop
-IsUnread name fails.TooLong stop = StopsWith name nowhere kinds.TooLong stop
-IsUnread name fails.Failed stop = StopsWith name nowhere kinds.File stop
+IsUnread name fails.Absent stop = StopsIn name kinds.Absent stop
+IsUnread name fails.TooLong stop = StopsIn name kinds.TooLong stop
+IsUnread name fails.Failed stop = StopsIn name kinds.File stop
 IsUnread name fails.NoMemory stop = stop ≡ stops.NoMemory
 
 -- a step ended for a file that couldn't be read

@@ -79,12 +79,13 @@ abbrev pub EndsUnread : Option (List File) → List IdlFile → (FileReader → 
 EndsUnread told begun was stops.NoMemory = ⊤
 EndsUnread told begun was (stops.At fault) = is_file fault.kind ≡ true → StopsUnread told begun was fault
 
--- Loading ended: at the flaw at which it stops, at a file that couldn't be read, or for want of memory.
+-- Loading ended: at the flaw at which it stops, at a file that couldn't be read, or for want of memory. A fault was counted only in the second case.
 pub record LoadEnds (before after : LoadStage) (was : FileReader → Loaded) (stop : LoadStop) : Type 0 where
   pub moves : LoadMoves before after
   pub flaw : (reader : FileReader) → Tells before.told reader → AreRead reader after.begun → LoadStopsAt (was reader) stop
   pub read : EndsUnread before.told after.begun was stop
   pub rose : is_unread stop ≡ true → Rose before.faults after.faults
+  pub quiet : is_unread stop ≡ false → after.faults ≡ before.faults
   pub outer : is_wrong_want stop ≡ false
 
 -- a step of loading

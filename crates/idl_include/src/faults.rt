@@ -1,7 +1,7 @@
 //! What a program can be refused for.
 
 ghost use Rattle.std.specs.Prelude.{◌≡◌, Result, IsOk, MatchResult};
-ghost use Rattle.idl_include.specs.Loads.{StopsWith};
+ghost use Rattle.idl_include.specs.Loads.{StopsWith, StopsIn};
 
 use idl_parser::ParseKind;
 use idl_token::{LexKind, Place};
@@ -107,6 +107,17 @@ pub(crate) fn no_memory(alloc: Global) -> LoadFault
         at: NOWHERE,
         kind: LoadKind::NoMemory,
     }
+}
+
+/// A fault of the file of this name as a whole.
+pub(crate) fn stop_in(file: ByteText, kind: LoadKind) -> LoadStop
+    ensures { StopsIn file kind result }
+{
+    LoadStop::At(LoadFault {
+        file,
+        at: NOWHERE,
+        kind,
+    })
 }
 
 /// A fault in the file of this name, or want of memory.

@@ -9,10 +9,11 @@ ghost use Rattle.idl_include.specs.Readings.{FileReading};
 ghost use Rattle.idl_include.specs.SourcesOf.{IsOfSomeText};
 ghost use Rattle.idl_include.specs.Loads.{Tells, IsRead, IsTextRead, IsUnread, IsUnreadAt, is_unread, is_wrong_want};
 
-use crate::faults::{LoadKind, LoadStop, NOWHERE, stop_at};
+use crate::faults::{LoadKind, LoadStop, stop_at, stop_in};
 use crate::laws::each_file_is_read_as_one_thing;
 use idl_parser::{Document, ParseFault, ParseKind, parse};
 use idl_token::{LONGEST_IDL_TEXT, LexFault, LexKind, Token, tokens};
+use lists::ByteText;
 use std::alloc::Global;
 use streams::{FileFail, Files};
 
@@ -30,23 +31,26 @@ pub(crate) fn read_file<F: Files>(
     ensures later { F.faults files.old ≤ F.faults files.new }
     ensures rose { IfErr result (λ stop. is_unread stop ≡ true → Rose (F.faults files.old) (F.faults files.new)) }
     ensures kept { OnOk result (F.faults files.new ≡ F.faults files.old) }
+    ensures quiet { IfErr result (λ stop. is_unread stop ≡ false → F.faults files.new ≡ F.faults files.old) }
     ensures outer { IfErr result (λ stop. is_wrong_want stop ≡ false) }
 {
     each_file_is_read_as_one_thing();
+    // The name of its fault is held before it is read: behind a read that failed no memory is wanted, for which the fault could be lost.
+    let file = ByteText::new(name.as_bytes().to_vec(alloc)?);
     match files.read_whole(alloc, name, LONGEST_IDL_TEXT) {
         Ok(text) => document_of(alloc, name, text.as_slice()),
-        Err(fail) => Err(unread(alloc, name, fail)),
+        Err(fail) => Err(unread(file, fail)),
     }
 }
 
 /// How loading ends at a file that isn't read.
-fn unread(alloc: Global, name: &str, fail: FileFail) -> LoadStop
-    ensures { IsUnread name.now fail result }
+fn unread(file: ByteText, fail: FileFail) -> LoadStop
+    ensures { IsUnread file fail result }
 {
     match fail {
-        FileFail::Absent => stop_at(alloc, name, NOWHERE, LoadKind::Absent),
-        FileFail::TooLong => stop_at(alloc, name, NOWHERE, LoadKind::TooLong),
-        FileFail::Failed => stop_at(alloc, name, NOWHERE, LoadKind::File),
+        FileFail::Absent => stop_in(file, LoadKind::Absent),
+        FileFail::TooLong => stop_in(file, LoadKind::TooLong),
+        FileFail::Failed => stop_in(file, LoadKind::File),
         FileFail::NoMemory => LoadStop::NoMemory,
     }
 }

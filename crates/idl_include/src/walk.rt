@@ -25,8 +25,8 @@ use streams::Files;
 /// alone has a flaw; want of memory may come anywhere.
 ///
 /// # Errors
-/// The first fault in the order of loading, with the name of its file and the place in it; `File` only where the count of
-/// faults rose. Where the program is loaded no read has failed.
+/// The first fault in the order of loading, with the name of its file and the place in it; `File` just where the count of
+/// faults rose. Where the program is loaded, or stops at another fault, no read has failed.
 pub fn load<F: Files>(alloc: Global, files: &mut F, main: &str) -> Result<Sources, LoadFault>
     ensures told { (reader : List ℕ → FileReading) → Tells (F.files files.old) reader → IsLoaded reader (program_of reader main.now) result }
     ensures sound { IfOk result (λ sources. AreFiles (sources_in sources)) }
@@ -36,6 +36,7 @@ pub fn load<F: Files>(alloc: Global, files: &mut F, main: &str) -> Result<Source
     ensures later { F.faults files.old ≤ F.faults files.new }
     ensures rose { IfErr result (λ fault. is_file fault.kind ≡ true → Rose (F.faults files.old) (F.faults files.new)) }
     ensures kept { OnOk result (F.faults files.new ≡ F.faults files.old) }
+    ensures quiet { IfErr result (λ fault. is_file fault.kind ≡ false → F.faults files.new ≡ F.faults files.old) }
     ensures outer { IfErr result (λ fault. is_inner_want fault.kind ≡ false) }
 {
     each_file_is_read_as_one_thing();

@@ -1,7 +1,7 @@
 use Rattle.std.proofs.Common.{refl, sym, ◌∙◌}
 use Rattle.streams.specs.Cause.{Rose}
 use Rattle.streams.proofs.Causes.{on_ok}
-use Rattle.idl_check.proofs.Telling.{of_tutorial, of_file, never_rises}
+use Rattle.idl_check.proofs.Telling.{of_tutorial, of_file, never_rises, quiet_on}
 use Rattle.idl_check.proofs.program.program_schema.Goals as goal
 
 pub returns-then-eq-clause-schema : goal.returns-then-eq-clause-schema
@@ -18,3 +18,6 @@ returns-then-eq-clause-rose g c =
 
 pub returns-then-eq-clause-kept : goal.returns-then-eq-clause-kept
 returns-then-eq-clause-kept g c = on_ok c.tutorial_schema.result refl
+
+pub returns-then-eq-clause-quiet : goal.returns-then-eq-clause-quiet
+returns-then-eq-clause-quiet g c = quiet_on c.tutorial_schema.result refl

@@ -1,5 +1,5 @@
 use Rattle.streams.proofs.Causes.{on_ok}
-use Rattle.idl_check.proofs.Telling.{from_loaded, from_stopped}
+use Rattle.idl_check.proofs.Telling.{from_loaded, from_stopped, quiet_on}
 use Rattle.idl_check.proofs.program.schema_among.Goals as goal
 
 pub returns-in-Ok-clause-schema : goal.returns-in-Ok-clause-schema
@@ -14,3 +14,6 @@ returns-in-Err-clause-schema g c =
 
 pub returns-in-Ok-clause-kept : goal.returns-in-Ok-clause-kept
 returns-in-Ok-clause-kept g c = on_ok c.checked_schema.result c.in-Ok.ensures.kept
+
+pub returns-in-Ok-clause-quiet : goal.returns-in-Ok-clause-quiet
+returns-in-Ok-clause-quiet g c = quiet_on c.checked_schema.result c.in-Ok.ensures.kept

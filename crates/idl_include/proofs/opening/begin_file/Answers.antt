@@ -22,7 +22,7 @@ returns-in_err-document-clause-steps g c = λ levels above.
     (load_stage (g.F.Files.files c.read_file.new.files) (g.F.Files.faults c.read_file.new.files) c.args.begun.now.items)
     _ _ c.from_residual.ensures.1
     (read_ends levels above (g.F.Files.files c.args.files.now) (g.F.Files.files c.read_file.new.files) (g.F.Files.faults c.args.files.now) (g.F.Files.faults c.read_file.new.files)
-    c.args.name.now c.args.begun.now.items c.in_err-document.field-0.0 room c.requires.fresh e.same e.later e.told e.failed e.rose e.outer)
+    c.args.name.now c.args.begun.now.items c.in_err-document.field-0.0 room c.requires.fresh e.same e.later e.told e.failed e.rose e.quiet e.outer)
 
 pub returns-in_err-wanted-clause-steps : goal.returns-in_err-wanted-clause-steps
 returns-in_err-wanted-clause-steps g c = λ levels above.
@@ -32,7 +32,7 @@ returns-in_err-wanted-clause-steps g c = λ levels above.
     steps_err c.from_residual-in_err-wanted.result stops.NoMemory a b _ _ c.from_residual-in_err-wanted.ensures.1
     (ends_for_want a b (file_left _ above c.args.name.now c.args.begun.now.items) stops.NoMemory refl
     (moves_to (g.F.Files.files c.args.files.now) (g.F.Files.files c.read_file.new.files) (g.F.Files.faults c.args.files.now) (g.F.Files.faults c.read_file.new.files)
-    c.args.begun.now.items c.start.new.begun.items e.same e.later c.in_err-wanted.ensures.kept))
+    c.args.begun.now.items c.start.new.begun.items e.same e.later c.in_err-wanted.ensures.kept) e.kept)
 
 pub returns-clause-steps : goal.returns-clause-steps
 returns-clause-steps g c = λ levels above.

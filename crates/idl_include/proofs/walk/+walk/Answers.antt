@@ -84,7 +84,7 @@ follow-returns-in-Before-clause-steps g t c =
     let w = written_in c.args.wanted.now in
     let P : List IdlFile → Type 0 = λ xs. include_meant c.args.above.now.items c.args.file.now w xs ≡ loaded_before c.in-Before.number in
     let m : P c.as_slice.result.now = (rw c.in-Before.is at c.in_ok-meaning.ensures).0 in
-    steps_stopped c.link.result c.or_stop.result _ _ _ _ _ c.or_stop.ensures c.link.ensures.linked (ends_for_want _ _ _ stops.NoMemory refl (moves_keeping _ _ _ _ c.link.ensures.keeps))
+    steps_stopped c.link.result c.or_stop.result _ _ _ _ _ c.or_stop.ensures c.link.ensures.linked (ends_for_want _ _ _ stops.NoMemory refl (moves_keeping _ _ _ _ c.link.ensures.keeps) refl)
     (λ linked. before_goes c.args.levels c.args.above.now.items c.args.file.now c.args.of c.in-Before.number w (g.F.Files.files c.args.files.now) (g.F.Files.faults c.args.files.now)
     c.args.begun.now.items c.link.new.begun.items (subst P c.as_slice.ensures.value m) c.link.ensures.keeps linked)
 
@@ -138,7 +138,7 @@ follow-returns-in_ok-load_file-in-New-clause-steps g t c =
     let m = rw c.in-New.is at c.in_ok-meaning.ensures in
     let same : c.len-number.result ≡ length c.args.begun.now.items = omega (arith, c.args.begun.now.ok.0, c.len-number.ensures) in
     steps_stopped c.link-in-New.result c.or_stop-in-New.result _ _ _ _ _ c.or_stop-in-New.ensures c.link-in-New.ensures.linked
-    (want_behind _ _ _ _ stops.NoMemory refl h.moves (moves_keeping _ _ _ _ c.link-in-New.ensures.keeps))
+    (want_behind _ _ _ _ stops.NoMemory refl h.moves (moves_keeping _ _ _ _ c.link-in-New.ensures.keeps) h.quiet)
     (λ l. new_goes c.args.levels c.args.above.now.items c.args.file.now c.args.of w a _ _ c.load_file.new.begun.items c.link-in-New.new.begun.items c.as_str.result.now
     (subst P c.as_slice.ensures.value m.0) (c.as_str.ensures.value ∙ m.1) h c.link-in-New.ensures.keeps
     (l ∙ ap (λ (n : ℕ). linked c.args.of n (program_in c.load_file.new.begun.items)) same))

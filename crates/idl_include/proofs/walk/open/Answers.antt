@@ -11,7 +11,7 @@ returns-in_err-wanted-clause-steps g c = λ levels.
 pub returns-in_err-put_above-clause-steps : goal.returns-in_err-put_above-clause-steps
 returns-in_err-put_above-clause-steps g c = λ levels.
     let h = c.in_ok-wanted.ensures.steps levels c.args.above.now.items in
-    steps_err c.from_residual-in_err-put_above.result stops.NoMemory _ _ _ _ c.from_residual-in_err-put_above.ensures.1 (ends_for_want _ _ _ stops.NoMemory refl h.moves)
+    steps_err c.from_residual-in_err-put_above.result stops.NoMemory _ _ _ _ c.from_residual-in_err-put_above.ensures.1 (ends_for_want _ _ _ stops.NoMemory refl h.moves h.quiet)
 
 pub returns-clause-steps : goal.returns-clause-steps
 returns-clause-steps g c = λ levels.
