@@ -9,18 +9,22 @@ use Rattle.outside.specs.Pipes.{PipeState}
 use Rattle.outside.specs.Binding.{PastLinks}
 use Rattle.outside.specs.Calling.{PastPipe}
 
--- The tape is told. Untold are the bytes that aren't read yet, what of them has arrived, the places of rest, and what was lent for each mark. All else is as of the links inside.
+-- Links with this tape. Untold are the bytes that aren't read yet, what of them has arrived, the places of rest, and the
+-- lengths of what was lent; all else is as it is inside.
 abbrev pub told_links : LinksState → List Mark → LinksState
-told_links inner tape = record inner { tape = Some tape; left = λ _. None; arrived = λ _. None; rests = None; lengths = None }
+told_links inner tape =
+    record inner { tape = Some tape; left = λ _. None; arrived = λ _. None; rests = None; lengths = None }
 
 -- the mark of what an answer opened
 abbrev pub marks_of_ask : {E : Type 0} → Result Hint E → List Mark
 marks_of_ask (Ok (Opened c)) = OpenedMark c ∷ []
 marks_of_ask _ = []
 
--- It is told what was written and what was read, and whether a read has answered the end. What reads will still give is untold; port and faults are as of the pipe inside.
+-- A pipe to which this was written and of which this was read, and that a read has answered the end or not. What reads
+-- will still give is untold; port and faults are as they are inside.
 abbrev pub told_pipe : PipeState → (written given : List ℕ) → Bool → PipeState
-told_pipe inner written given ended = record inner { written = Some written; given = Some given; left = None; ended = Some ended }
+told_pipe inner written given ended =
+    record inner { written = Some written; given = Some given; left = None; ended = Some ended }
 
 -- where links listened; links that listen nowhere don't come back
 abbrev pub place_listened : Option Listening → Listening
@@ -31,6 +35,6 @@ place_listened (Some listening) = listening
 abbrev pub returned_links : LinksState → List Mark → PastLinks
 returned_links inner tape = record { tape = tape; over = inner.over; listening = place_listened inner.listens }
 
--- a pipe that was hung up, to which this was written and of which this was read
+-- a pipe that was hung up, to which this was written and of which this was read, its end or not
 abbrev pub hung_up_pipe : PipeState → (written given : List ℕ) → Bool → PastPipe
 hung_up_pipe inner written given ended = record { port = inner.port; written = written; read = given; ended = ended }

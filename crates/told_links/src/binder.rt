@@ -36,13 +36,16 @@ impl<B: Binder + Drop> Model for ToldBinder<B> {
       called = map (λ pipe. hung_up_pipe (B.P.state pipe.inner) pipe.written pipe.given pipe.ended) b.called;
     } };
 
+    // Where the binder inside tells what came back to it, these came back since it was handed in.
     ghost invariant = { λ b.
-        HasTheseMore (B.past b.opening.value) (map (λ links. returned_links (B.L.state links.inner) links.tape) b.past) (B.past b.inner)
-        × HasTheseMore (B.called b.opening.value) (map (λ pipe. hung_up_pipe (B.P.state pipe.inner) pipe.written pipe.given pipe.ended) b.called) (B.called b.inner) };
+        HasTheseMore (B.past b.opening.value)
+        (map (λ links. returned_links (B.L.state links.inner) links.tape) b.past) (B.past b.inner)
+        × HasTheseMore (B.called b.opening.value)
+        (map (λ pipe. hung_up_pipe (B.P.state pipe.inner) pipe.written pipe.given pipe.ended) b.called) (B.called b.inner) };
 }
 
 impl<B: Binder + Drop> ToldBinder<B> {
-    /// Over this binder. No links have come back yet, and no pipe, and both are told.
+    /// Over this binder, which is left as it is. No links have come back yet, and no pipe.
     pub fn new(inner: B) -> ToldBinder<B>
         ensures { result ≡ record { inner = inner; past = []; called = [] } }
     {

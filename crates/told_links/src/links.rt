@@ -34,6 +34,7 @@ impl<L: Links + Drop> Model for ToldLinks<L> {
 
     ghost view = { λ l. record { inner = l.inner; tape = marks_noted l.tape } };
 
+    // Where the links inside tell their tape, it is the same.
     ghost invariant = { λ l. IsSameIfTold (L.state l.inner).tape (marks_noted l.tape) };
 }
 

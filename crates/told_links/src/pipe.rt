@@ -14,11 +14,9 @@ use streams::{Failed, Sink, Source};
 #[derive(Drop)]
 pub struct ToldPipe<P: Pipe> {
     pub(crate) inner: P,
-    // What was written, for proofs alone.
+    // What was written, what was read, and the reads that answered the end, for proofs alone.
     pub(crate) written: Appended<NotedBytes>,
-    // What was read, for proofs alone.
     pub(crate) given: Appended<NotedBytes>,
-    // The reads that answered the end, for proofs alone.
     pub(crate) ends: Appended<()>,
 }
 
@@ -29,9 +27,16 @@ impl<P: Pipe> Model for ToldPipe<P> {
 
     ghost Value = { ToldTalk P };
 
-    ghost view = { λ p. record { inner = p.inner; written = bytes_noted p.written; given = bytes_noted p.given; ended = end_noted p.ends } };
+    ghost view = { λ p. record {
+      inner = p.inner;
+      written = bytes_noted p.written;
+      given = bytes_noted p.given;
+      ended = end_noted p.ends;
+    } };
 
-    ghost invariant = { λ p. TellsTheSame (P.state p.inner) (bytes_noted p.written) (bytes_noted p.given) (end_noted p.ends) };
+    // What the pipe inside tells is the same.
+    ghost invariant = { λ p.
+        TellsTheSame (P.state p.inner) (bytes_noted p.written) (bytes_noted p.given) (end_noted p.ends) };
 }
 
 impl<P: Pipe> Source for ToldPipe<P> {

@@ -31,6 +31,7 @@ impl<K: Sink + Drop> Model for ToldSink<K> {
 
     ghost view = { λ s. record { inner = s.inner; taken = bytes_noted s.taken } };
 
+    // Where the sink inside tells what it took, it took this since it was handed in.
     ghost invariant = { λ s. K.taken s.inner ≡ told_more (K.taken s.opening.value) (bytes_noted s.taken) };
 }
 
