@@ -231,9 +231,9 @@ def lists(is_whole):
     """Yields the text of the three lists, a line a crate; where not all is asked for, the first one, and of the others their numbers."""
     known = list(calls())
     for title, belongs, is_shown in (
-        ("may wait; those with a star may take memory too", lambda kinds: "wait" in kinds, True),
-        ("wait for nobody, and may take memory", lambda kinds: kinds == {"take"}, is_whole),
-        ("wait for nobody, and take none", lambda kinds: not kinds, is_whole),
+        ("may wait, for a thread or for what is next on connections; those with a star may take memory too", lambda kinds: "wait" in kinds, True),
+        ("wait for nothing but the reads and writes of the outside, and may take memory", lambda kinds: kinds == {"take"}, is_whole),
+        ("wait for nothing else either, and take none", lambda kinds: not kinds, is_whole),
     ):
         by_crate = {}
         for crate, name, _, kinds in known:
