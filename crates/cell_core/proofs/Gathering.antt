@@ -15,7 +15,7 @@ use Rattle.cell_loop.specs.Replies.{IsReplySome}
 use Rattle.cell_loop.specs.declared.loop_part.CellStage.TheVariants.{Whole, Asked}
 use Rattle.cell_loop.specs.declared.loop_part.LoopPart.{LoopPart}
 use Rattle.cell_loop.specs.LoopTied.{IsLoopTied, HasRoomToClose}
-use Rattle.cell_loop.specs.LoopMoves.{HandsOut, TakesOutcome}
+use Rattle.cell_loop.specs.LoopMoves.{GivesOut, TakesOutcome}
 use Rattle.conn_refinement.proofs.Tables.{place_of}
 use Rattle.cell_core.specs.declared.worker.Holding.{Holding}
 use Rattle.cell_core.specs.HallTied.{IsHallTied, AreWorkersTied}
@@ -49,7 +49,7 @@ played_so s part hall workers next states now loop workers_are hall_is hall_tied
     }
 
 -- the hall can take the payload that is handed out
-pub hands_to : (m : Parts) (c i : ℕ) (payload : List ℕ) (new_part : LoopPart) → SomeMachine m → slice_get m.part.stages.items c ≡ Some Whole → HandsOut c i payload m.part new_part
+pub hands_to : (m : Parts) (c i : ℕ) (payload : List ℕ) (new_part : LoopPart) → SomeMachine m → slice_get m.part.stages.items c ≡ Some Whole → GivesOut c i payload m.part new_part
     → SeenCan handler_rules m.hall (submit (key_of c i) payload)
 hands_to m c i payload new_part now whole handed =
     let s : CellSetting = now.0 in
@@ -60,7 +60,7 @@ hands_to m c i payload new_part now whole handed =
 
 -- a submit is the connection's move
 pub submit_moves : (part : LoopPart) (hall : ServedHall) (workers : List Holding) (c i : ℕ) (payload : List ℕ) (new_part : LoopPart) (new_hall : ServedHall) (answer : HallAnswer PlainAnswer)
-    → HandsOut c i payload part new_part → SeenGives handler_rules hall (submit (key_of c i) payload) answer new_hall
+    → GivesOut c i payload part new_part → SeenGives handler_rules hall (submit (key_of c i) payload) answer new_hall
     → ConnReaches → (max : ℕ)
     → MachineMoves max (λ s. one_of_conn s c) (record { part = part; hall = hall; workers = workers }) true (record { part = new_part; hall = new_hall; workers = workers })
 submit_moves part hall workers c i payload new_part new_hall answer handed gives reaches max =

@@ -47,8 +47,8 @@ abbrev pub HasLongest : ℕ → CellSetting → Type 0
 HasLongest max s = s.desk.max_frame ≡ max
 
 -- A payload of connection c is handed out under this number: the move submits it, to a hall that is open.
-abbrev pub HandsOut : ℕ → ℕ → List ℕ → LoopPart → LoopPart → Type 0
-HandsOut c i payload old new =
+abbrev pub GivesOut : ℕ → ℕ → List ℕ → LoopPart → LoopPart → Type 0
+GivesOut c i payload old new =
     (s : CellSetting) (play : ServedPlay) → IsLoopTied s old play → play.cell.hall.closed ≡ false
     → ((play.cell.loop.conns c).submitted ≡ i) × (slice_get (play.cell.loop.conns c).payloads i ≡ Some payload)
     × GoesTo (one_of_conn s c) (λ next. IsLoopTied s new next × (next.cell.workers ≡ play.cell.workers)

@@ -17,7 +17,7 @@ ghost use Rattle.cell_loop.specs.Feeds.{AreFreshFeeds};
 ghost use Rattle.cell_loop.specs.Replies.{IsReplySome};
 ghost use Rattle.cell_loop.specs.Closing.{StageHasSize, IsClosed, HasMoreRoom, end_told};
 ghost use Rattle.cell_loop.specs.Moving.{one_opening};
-ghost use Rattle.cell_loop.specs.LoopMoves.{IsLoopUnderWay, StaysTied, LoopMoves, AnySetting, HasLongest, HandsOut, TakesOutcome, StopsOne, StopsAll, AreAllOver};
+ghost use Rattle.cell_loop.specs.LoopMoves.{IsLoopUnderWay, StaysTied, LoopMoves, AnySetting, HasLongest, GivesOut, TakesOutcome, StopsOne, StopsAll, AreAllOver};
 ghost use Rattle.call_rules.specs.Desks.{longest_payload};
 
 use crate::feed::Feed;
@@ -232,7 +232,7 @@ impl<'a> LoopPart<'a> {
     pub fn give(&mut self, c: u32) -> (u64, Vec<u8>)
         requires under_way { IsLoopUnderWay self.old }
         requires whole { slice_get self.old.stages.items c ≡ Some Whole }
-        ensures handed { HandsOut c result.0 result.1.items self.old self.new }
+        ensures handed { GivesOut c result.0 result.1.items self.old self.new }
         ensures feeds { length self.new.feeds.items ≡ length self.old.feeds.items }
         ensures room { HasRoomToClose self.new }
     {

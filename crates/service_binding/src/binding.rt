@@ -9,7 +9,7 @@ ghost use Rattle.service_binding.specs.FirstRefusal.{IsFirstRefusal, OnRefusal};
 ghost use Rattle.service_binding.specs.Steps.{AreLeftBehind, IsHanded, IsBoundSoFar, OnPairFault};
 
 use crate::fault::{BindFault, BindKind, PairFault};
-use crate::handlers::{Handed, suits, take_handler};
+use crate::handlers::{HandedIn, suits, take_handler};
 use crate::services::number_for;
 use crate::{BindWords, Word};
 use call_rules::{Handler, Kind};
@@ -29,7 +29,7 @@ struct Progress<H> {
 fn take_pair<H: Handler>(
     alloc: Global,
     schema: &Schema,
-    handed: Handed,
+    handed: HandedIn,
     before: &[(Word, Kind)],
     pair: &(Word, Kind),
     left: &mut Vec<H>,
@@ -71,7 +71,7 @@ impl<H: Handler> Progress<H> {
         &mut self,
         alloc: Global,
         schema: &Schema,
-        handed: Handed,
+        handed: HandedIn,
         before: &[(Word, Kind)],
         pair: &(Word, Kind),
     ) -> Result<(), PairFault>
@@ -100,7 +100,7 @@ fn bound_pairs<H: Handler>(
     ensures bound { IfOk result (λ made. AreBound (schema_of schema.now) (map H.service handlers.items) pairs.now made.names.items (map H.service made.bound.items)) }
     ensures refused { IfErr result (λ fault. OnRefusal fault (IsFirstRefusal (schema_of schema.now) (map H.service handlers.items) pairs.now)) }
 {
-    let handed = Handed::new(&handlers);
+    let handed = HandedIn::new(&handlers);
     let mut progress = Progress {
         names: Vec::new(alloc),
         bound: Vec::new(alloc),

@@ -62,18 +62,18 @@ fn is_handed_in<H: Handler>(handlers: &[H], kind: Kind) -> bool
 
 /// Of which kinds handlers were handed in.
 #[derive(Clone, Copy)]
-pub(crate) struct Handed {
+pub(crate) struct HandedIn {
     calculator: bool,
     store: bool,
     mirror: bool,
 }
 
-impl Handed {
+impl HandedIn {
     /// The kinds of these handlers.
     pub(crate) fn new<H: Handler>(handlers: &[H]) -> Self
         ensures { IsHanded result (map H.service handlers.now) }
     {
-        Handed {
+        HandedIn {
             calculator: is_handed_in(handlers, Kind::Calculator),
             store: is_handed_in(handlers, Kind::Store),
             mirror: is_handed_in(handlers, Kind::Mirror),
@@ -105,7 +105,7 @@ fn take_first<H: Handler>(left: &mut Vec<H>, kind: Kind) -> Option<H>
 /// Takes the handler of a pair of this kind out of those that are left.
 pub(crate) fn take_handler<H: Handler>(
     left: &mut Vec<H>,
-    handed: Handed,
+    handed: HandedIn,
     kind: Kind,
 ) -> Result<H, BindKind>
     ensures exact { MatchResult result

@@ -26,7 +26,7 @@ use Rattle.thrift_host.specs.Counts.{CountsTell, NoneRose}
 use Rattle.thrift_host.specs.Complete.{IsIdlTold, IsGoodIdl, IsGoodChange, IsRunReady, IsGoodInput, IsWellAsked}
 use Rattle.thrift_host.specs.Runs.{AskedRun, IsArranged, ScriptRunning, rehearsing, recording, answering_of, IsUnboundWith, MeansUnarranged, MeansRun}
 use Rattle.thrift_host.specs.Serving.{AskedServing, HostChange, MeansServing}
-use Rattle.thrift_host.specs.Surroundings.{Surroundings, streams_of, change_of}
+use Rattle.thrift_host.specs.Surroundings.{Surroundings, streams_between, change_between}
 use Rattle.thrift_host.specs.Top.{asked_run, asked_place, Means}
 use Rattle.thrift_host.specs.Workloads.{asked_workload, MeansWorkload}
 
@@ -157,23 +157,23 @@ module _ (one : OneVerdict) (good : BoundIsGood) (never : BreakIsNone) where
   work_goes r seed size s WriteFault ready h = tt
   work_goes r seed size s status ready h = unarranged_goes r s status ready h
 
-  goes : (words : Option PlainCommand) (handlers : List ServiceState) (status : Status) (before after : Surroundings) → Means words handlers status (change_of before after)
+  goes : (words : Option PlainCommand) (handlers : List ServiceState) (status : Status) (before after : Surroundings) → Means words handlers status (change_between before after)
       → IsWellAsked words handlers before → IsNoRefusal status
-  goes (Some (checks idl)) handlers status before after h asked = check_goes before.files.held idl (streams_of before after) status asked h
-  goes (Some (compares old new)) handlers status before after h asked = compat_goes before.files.held old new (streams_of before after) status asked h
+  goes (Some (checks idl)) handlers status before after h asked = check_goes before.files.held idl (streams_between before after) status asked h
+  goes (Some (compares old new)) handlers status before after h asked = compat_goes before.files.held old new (streams_between before after) status asked h
   goes (Some (rehearses says)) handlers status before after h asked =
-      run_goes rehearsing (asked_run says before.files.held handlers) (script_of_text says.workers true) (λ a. refl) (streams_of before after) status asked.0 asked.1 h
+      run_goes rehearsing (asked_run says before.files.held handlers) (script_of_text says.workers true) (λ a. refl) (streams_between before after) status asked.0 asked.1 h
   goes (Some (records says)) handlers status before after h asked =
-      run_goes recording (asked_run says before.files.held handlers) (script_of_text says.workers false) (λ a. refl) (streams_of before after) status asked.0 asked.1 h
+      run_goes recording (asked_run says before.files.held handlers) (script_of_text says.workers false) (λ a. refl) (streams_between before after) status asked.0 asked.1 h
   goes (Some (serves says port accept journal)) handlers status before after h asked =
-      serve_goes (record { run = asked_run says before.files.held handlers; place = asked_place port accept journal }) (change_of before after) status asked h.1
+      serve_goes (record { run = asked_run says before.files.held handlers; place = asked_place port accept journal }) (change_between before after) status asked h.1
   goes (Some (runs seed size workers)) handlers status before after h asked =
-      work_goes (asked_workload workers before.files.held handlers) seed size (streams_of before after) status asked h
+      work_goes (asked_workload workers before.files.held handlers) seed size (streams_between before after) status asked h
   goes (Some (calls asking)) handlers status before after h asked = absurd asked
   goes None handlers status before after h asked = absurd asked
 
   pub only_done : (words : Option PlainCommand) (handlers : List ServiceState) (status : Status) (before after : Surroundings)
-      → Means words handlers status (change_of before after) → CountsTell before after status → IsWellAsked words handlers before → NoneRose before after
+      → Means words handlers status (change_between before after) → CountsTell before after status → IsWellAsked words handlers before → NoneRose before after
       → (status ≡ Done) ⊎ (status ≡ NoMemory)
   only_done words handlers status before after h shows asked none = by status shows (goes words handlers status before after h asked)
     where

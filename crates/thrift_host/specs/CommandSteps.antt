@@ -4,13 +4,13 @@ use Rattle.call_rules.specs.Handling.{ServiceState}
 use Rattle.command_line.specs.Words.{PlainCommand}
 use Rattle.thrift_host.specs.declared.status.Status.{Status}
 use Rattle.thrift_host.specs.Counts.{CountsTell}
-use Rattle.thrift_host.specs.Surroundings.{Surroundings, change_of, dialled_of, errors_of}
+use Rattle.thrift_host.specs.Surroundings.{Surroundings, change_between, dialled_between, errors_between}
 use Rattle.thrift_host.specs.Top.{Means, MeansCalled, Says, KeepsPlace}
 
 -- how a command ended, by what its words are: what `host` promises, but that it is complete
 pub record EndsCommand (command : Option PlainCommand) (handlers : List ServiceState) (before after : Surroundings) (status : Status) : Type 0 where
-  pub means : Means command handlers status (change_of before after)
-  pub said : Says command handlers status (change_of before after) (errors_of before after)
-  pub called : MeansCalled command before.files.held status (dialled_of before after) (errors_of before after)
-  pub kept : KeepsPlace command (change_of before after).place
+  pub means : Means command handlers status (change_between before after)
+  pub said : Says command handlers status (change_between before after) (errors_between before after)
+  pub called : MeansCalled command before.files.held status (dialled_between before after) (errors_between before after)
+  pub kept : KeepsPlace command (change_between before after).place
   pub counts : CountsTell before after status

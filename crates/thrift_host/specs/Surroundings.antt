@@ -10,23 +10,23 @@ use Rattle.thrift_host.specs.Errors.{Errors}
 use Rattle.thrift_host.specs.Serving.{HostChange}
 
 -- the files, where they are told; how many calls of theirs failed, and how many sinks came back that had failed
-pub record FilesState : Type 0 where
+pub record FilesAround : Type 0 where
   pub held : Option (List File)
   pub faults : ℕ
   pub sink_faults : ℕ
 
 -- what reads of the input will still give, where that is told; and how many failed
-pub record InputState : Type 0 where
+pub record InputAround : Type 0 where
   pub left : Option (List ℕ)
   pub faults : ℕ
 
 -- what the output has taken, where that is told; and how many writes failed
-pub record OutputState : Type 0 where
+pub record OutputAround : Type 0 where
   pub taken : Option (List ℕ)
   pub faults : ℕ
 
 -- the links that came back and the pipes that were hung up, where they are told; how many of both were handed out and have come back; and how many faults were counted
-pub record BinderState : Type 0 where
+pub record BinderAround : Type 0 where
   pub past : Option (List PastLinks)
   pub called : Option (List PastPipe)
   pub handed : HandedOut
@@ -34,20 +34,20 @@ pub record BinderState : Type 0 where
 
 -- all of them, at one time
 pub record Surroundings : Type 0 where
-  pub files : FilesState
-  pub input : InputState
-  pub output : OutputState
-  pub errors : OutputState
-  pub binder : BinderState
+  pub files : FilesAround
+  pub input : InputAround
+  pub output : OutputAround
+  pub errors : OutputAround
+  pub binder : BinderAround
 
 module _ (before after : Surroundings) where
   -- what was read and written
-  abbrev pub streams_of : Streams
-  streams_of = record { left_before = before.input.left; left = after.input.left; taken_before = before.output.taken; taken = after.output.taken }
+  abbrev pub streams_between : Streams
+  streams_between = record { left_before = before.input.left; left = after.input.left; taken_before = before.output.taken; taken = after.output.taken }
 
   -- what became of the files, and of links
-  abbrev pub place_of : PlaceChange
-  place_of = record {
+  abbrev pub place_between : PlaceChange
+  place_between = record {
     files_before = before.files.held;
     files = after.files.held;
     sink_faults_before = before.files.sink_faults;
@@ -57,12 +57,12 @@ module _ (before after : Surroundings) where
   }
 
   -- both
-  abbrev pub change_of : HostChange
-  change_of = record { streams = streams_of; place = place_of }
+  abbrev pub change_between : HostChange
+  change_between = record { streams = streams_between; place = place_between }
 
   -- what was dialled, and written
-  abbrev pub dialled_of : CallChange
-  dialled_of = record {
+  abbrev pub dialled_between : CallChange
+  dialled_between = record {
     dialled_before = record { called = before.binder.called; handed = before.binder.handed };
     dialled = record { called = after.binder.called; handed = after.binder.handed };
     taken_before = before.output.taken;
@@ -70,8 +70,8 @@ module _ (before after : Surroundings) where
   }
 
   -- what was said
-  abbrev pub errors_of : Errors
-  errors_of = record {
+  abbrev pub errors_between : Errors
+  errors_between = record {
     taken_before = before.errors.taken;
     taken = after.errors.taken;
     faults_before = before.errors.faults;
