@@ -11,17 +11,17 @@ use Rattle.service_binding.specs.declared.fault.BindFault.{BindFault}
 use Rattle.service_binding.specs.declared.fault.BindFault.TheVariants as bind_faults
 use Rattle.service_binding.specs.declared.fault.PairFault.{PairFault}
 use Rattle.service_binding.specs.declared.fault.PairFault.TheVariants as faults
-use Rattle.service_binding.specs.declared.handlers.Handed.{Handed}
+use Rattle.service_binding.specs.declared.handlers.HandedIn.{HandedIn}
 use Rattle.service_binding.specs.Handlers.{is_handed_in, left_behind, same_kind, services_of_kind}
 
 -- the test of a kind
-abbrev pub has_kind : Handed → Kind → Bool
+abbrev pub has_kind : HandedIn → Kind → Bool
 has_kind handed Calculator = handed.calculator
 has_kind handed Store = handed.store
 has_kind handed Mirror = handed.mirror
 
 -- the tests are right of these handlers
-abbrev pub IsHanded : Handed → List ServiceState → Type 0
+abbrev pub IsHanded : HandedIn → List ServiceState → Type 0
 IsHanded handed services = (kind : Kind) → has_kind handed kind ≡ is_handed_in kind services
 
 -- these handlers are left after the pairs, of each kind
