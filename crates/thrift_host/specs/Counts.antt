@@ -1,5 +1,5 @@
 -- What the counts of faults tell of a status.
-use Rattle.std.specs.Prelude.{◌≡◌, ⊥}
+use Rattle.std.specs.Prelude.{◌≡◌}
 use Rattle.streams.specs.Cause.{Rose}
 use Rattle.thrift_host.specs.declared.status.Status.{Status}
 use Rattle.thrift_host.specs.declared.status.Status.TheVariants.{Done, FileFault, ReadFault, WriteFault, NetFault, JournalFault}
