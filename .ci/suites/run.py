@@ -20,6 +20,10 @@ import examples
 import rows
 import screen
 import scripts
+import tool_ask
+import tool_changes
+import tool_json
+import tool_mend
 import tool_texts
 from suite import Outcome, Programs, Test, Unfit, both_built, counted, found_programs, named_program, outcome_of
 
@@ -47,9 +51,13 @@ SUITES = {
     "screen": Suite("README's first screen", "what README.md begins with prints what it says, at a real port", screen.tests),
     "scripts": Suite("%d tests of the scripts", "./test and .ci/texts fail where they have to", scripts.tests, runs_program=False),
     "tool_texts": Suite("%d tests of tools/texts", "the tools' module reads what the program writes", tool_texts.tests),
+    "tool_json": Suite("%d tests of tools/json", "journals, reports and scripts come to the JSON that they say", tool_json.tests),
+    "tool_ask": Suite("%d tests of tools/ask", "calls by JSON are answered, or end with their status", tool_ask.tests),
+    "tool_mend": Suite("%d tests of tools/mend", "what is mended is accepted, and each change is told", tool_mend.tests),
+    "tool_changes": Suite("%d tests of tools/changes", "all differences of two IDLs are told, as `compat` has them", tool_changes.tests),
     "texts": Suite("%d checks of the tree as text", "the tree is in order as text", lambda: [counted(".ci/texts")], runs_program=False),
 }
-USUAL = ["rows", "examples", "screen", "scripts", "tool_texts"]
+USUAL = ["rows", "examples", "screen", "scripts", "tool_texts", "tool_json", "tool_ask", "tool_mend", "tool_changes"]
 
 
 def stop(status, line):

@@ -1,0 +1,2 @@
+def tests(programs):
+    return []
