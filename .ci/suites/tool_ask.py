@@ -50,7 +50,8 @@ CALLS = [
     ("add", '{"num1": 1, "num1": 2}', 13, "", 'refused arguments: the name "num1" stands twice'),
     ("divide", "{}", 13, "", "Calculator has no method divide, but: ping, add, calculate, zip, getStruct"),
 ]
-UNION = """union U { 1: i32 a 2: string b } struct R { 1: required U u 2: optional R next 3: map<U, set<E>> m } enum E { X = 5 }
+UNION = """union U { 1: i32 a 2: string b } enum E { X = 5 }
+struct R { 1: required U u 2: optional R next 3: map<U, set<E>> m }
 service V { oneway void f(1: R r 2: double d = 1.0) void g(1: list<R> l) }
 """
 REFUSED = [
@@ -194,7 +195,9 @@ def random_calls(program, seed, count):
             for ended, (function, went), (_, arguments) in zip(ran_all(program, "ask", calls), given, calls):
                 demand(ended[0] == 0, "seed %d: %s %s: %r", seed, function.name, arguments, ended)
                 come = json.loads(ended[1])
-                both = [json.dumps(tool_values.normal(schema, function.result, it)) for it in (come, went)]
+                both = [
+                    json.dumps(tool_values.normal(schema, function.result, it), sort_keys=True) for it in (come, went)
+                ]
                 demand(both[0] == both[1], "seed %d: %s came back as %s", seed, arguments, ended[1])
 
 

@@ -1,4 +1,4 @@
-"""The suite `tool_json`: tools/json writes what journals, reports, summaries and scripts say, and tells what is none."""
+"""The suite `tool_json`: tools/json writes what journals, reports and scripts say, and tells what is none."""
 import functools
 import json
 import os
