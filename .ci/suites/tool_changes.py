@@ -89,6 +89,9 @@ compat: break Order 3 Unlike
 """ % {
     "keyed": KEYED,
     "missing": MISSING,
+    "default": "no byte tells defaults: one that is missing is read otherwise",
+    "required": "old clients require it, and what goes back may lack it",
+    "oneway": "one side waits for a reply that the other doesn't send",
 }
 
 
