@@ -24,6 +24,7 @@ import tool_ask
 import tool_changes
 import tool_json
 import tool_mend
+import tool_page
 import tool_texts
 from suite import Outcome, Programs, Test, Unfit, both_built, counted, found_programs, named_program, outcome_of
 
@@ -55,9 +56,10 @@ SUITES = {
     "tool_ask": Suite("%d tests of tools/ask", "calls by JSON are answered, or end with their status", tool_ask.tests),
     "tool_mend": Suite("%d tests of tools/mend", "what is mended is accepted, and each change is told", tool_mend.tests),
     "tool_changes": Suite("%d tests of tools/changes", "all differences of two IDLs are told, as `compat` has them", tool_changes.tests),
+    "tool_page": Suite("docs/TOOLS.md", "each command of docs/TOOLS.md prints what stands there", tool_page.tests),
     "texts": Suite("%d checks of the tree as text", "the tree is in order as text", lambda: [counted(".ci/texts")], runs_program=False),
 }
-USUAL = ["rows", "examples", "screen", "scripts", "tool_texts", "tool_json", "tool_ask", "tool_mend", "tool_changes"]
+USUAL = ["rows", "examples", "screen", "scripts", "tool_texts", "tool_json", "tool_ask", "tool_mend", "tool_changes", "tool_page"]
 
 
 def stop(status, line):
