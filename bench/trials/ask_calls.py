@@ -9,7 +9,7 @@ import sys
 
 from built import TOP
 
-sys.path[:0] = [os.path.join(TOP, ".ci/suites"), os.path.join(TOP, "tools")]
+sys.path.append(os.path.join(TOP, ".ci/suites"))
 from suite import Found  # noqa: E402
 from texts.program import program_path  # noqa: E402
 from tool_ask import random_calls  # noqa: E402

@@ -13,9 +13,7 @@ import sys
 import tempfile
 
 from built import TOP
-
-sys.path.insert(0, os.path.join(TOP, "tools"))
-from texts.program import program_path  # noqa: E402
+from texts.program import program_path
 
 
 def idl_files(folders):
