@@ -57,7 +57,7 @@ class Place:
     def copied(self):
         """A copy of the scripts, with one source that dist/ isn't of."""
         self.top = os.path.join(self.folder, "copy")
-        for name in (".ci", "dist", "examples"):
+        for name in (".ci", "dist", "examples", "tools"):
             shutil.copytree(os.path.join(TOP, name), os.path.join(self.top, name), ignore=shutil.ignore_patterns("__pycache__"))
         for name in ("thriftd", "test", "README.md"):
             shutil.copy(os.path.join(TOP, name), self.top)
