@@ -1,11 +1,11 @@
 """Scripts as a stream of lines: docs/PROFILE.md, 'Scripts'."""
+import binascii
 import re
 from typing import NamedTuple, Optional
 
 from . import Fault
 
 MOST_BYTES, MOST_OPENINGS, MOST_NUMBER = 67_108_864, 1_024, 2**32 - 1
-HEX = re.compile(rb"(?:[0-9a-fA-F]{2})+\Z")
 WORD_HEX = re.compile(rb"data (0|[1-9][0-9]{0,9}) ")
 # What stands behind a word: the number of a connection, a worker or bytes, or hexadecimal digits.
 WORDS = {
@@ -51,6 +51,15 @@ def number_in(word):
     return int(word)
 
 
+def bytes_of(digits):
+    """The bytes of pairs of hexadecimal digits; None where these are none. (A regular expression would take a hundred
+    times as long for a long piece, and as much memory.)"""
+    try:
+        return binascii.unhexlify(digits) or None
+    except binascii.Error:
+        return None
+
+
 def form_of(text):
     """The word of a line, its numbers and its bytes, or None where it has no form."""
     word, *parts = text.split(b" ")
@@ -60,9 +69,9 @@ def form_of(text):
     numbers, data = [], None
     for kind, part in zip(shape, parts):
         if kind == "h":
-            if not HEX.match(part):
+            data = bytes_of(part)
+            if data is None:
                 return None
-            data = bytes.fromhex(part.decode("ascii"))
             continue
         number = number_in(part)
         if number is None or (kind == "n" and number == 0):
