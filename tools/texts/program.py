@@ -10,6 +10,11 @@ TOP = os.path.dirname(os.path.dirname(os.path.dirname(os.path.abspath(__file__))
 USAGE, IDL, FILE, NO_PROGRAM = 1, 2, 5, 126
 
 
+def said_of(done):
+    """The line of a run's standard error, without the program's name."""
+    return done.stderr.strip().replace("thriftd: ", "", 1)
+
+
 def program_path():
     """The program that THRIFTD names, or else the one that ./thriftd runs, which builds none."""
     named = os.environ.get("THRIFTD")
@@ -24,7 +29,7 @@ def program_path():
     except OSError as fault:
         raise Stop(NO_PROGRAM, "there is no program: %s" % fault) from None
     if done.returncode:
-        raise Stop(done.returncode, done.stderr.strip() or "there is no program")
+        raise Stop(done.returncode, said_of(done) or "there is no program")
     return done.stdout.rstrip("\n")
 
 
@@ -42,7 +47,7 @@ def schema_of(idl, cwd=None, program=None):
         raise Stop(USAGE, "%r is no name of an IDL" % idl)
     done = run("check", idl, cwd=cwd, program=program)
     if done.returncode:
-        raise Stop(done.returncode, done.stderr.strip().replace("thriftd: ", "", 1))
+        raise Stop(done.returncode, said_of(done))
     try:
         return read_schema(done.stdout)
     except Fault as fault:

@@ -32,10 +32,12 @@ def printable(line):
     return " ".join(line.split()).encode("utf-8", "backslashreplace").decode("utf-8")
 
 
-def finish():
-    """Writes what is left, so that a fault of that is told."""
+def emit(text=""):
+    """Writes to standard output, so that a fault of that is told; without a text, what is left to be written."""
     try:
-        sys.stdout.flush()
+        sys.stdout.write(text)
+        if not text:
+            sys.stdout.flush()
     except BrokenPipeError:
         raise
     except OSError as fault:
@@ -44,12 +46,13 @@ def finish():
 
 def run_tool(name, main):
     """Runs a tool's main function on its words, and ends with the status that it returns."""
+    sys.stdout.reconfigure(encoding="utf-8")
     try:
         try:
             status = main(sys.argv[1:]) or 0
         except SystemExit as ended:
             status = ended.code
-        finish()
+        emit()
     except Stop as stop:
         print(printable("thriftd %s: %s" % (name, stop.line)), file=sys.stderr)
         status = stop.status
