@@ -30,9 +30,9 @@ def seconds(word):
     return value
 
 
-def counted(number, name):
+def counted(number, one, several=None):
     """A number and what it counts: 1 connection, 2 connections."""
-    return "%s %s%s" % (format(number, ","), name, "" if number == 1 else "s")
+    return "%s %s" % (format(number, ","), one if number == 1 else several or one + "s")
 
 
 def allow_descriptors():
