@@ -20,6 +20,7 @@ import examples
 import rows
 import screen
 import scripts
+import tool_ports
 import tool_texts
 from suite import Outcome, Programs, Test, Unfit, both_built, counted, found_programs, named_program, outcome_of
 
@@ -46,10 +47,11 @@ SUITES = {
     "examples": Suite("%d examples", "each example of examples/ comes to what is kept beside it", examples.tests),
     "screen": Suite("README's first screen", "what README.md begins with prints what it says, at a real port", screen.tests),
     "scripts": Suite("%d tests of the scripts", "./test and .ci/texts fail where they have to", scripts.tests, runs_program=False),
+    "tool_ports": Suite("%d tests of stop, tap and play", "the tools at ports do as docs/TOOLS.md says", tool_ports.tests),
     "tool_texts": Suite("%d tests of tools/texts", "the tools' module reads what the program writes", tool_texts.tests),
     "texts": Suite("%d checks of the tree as text", "the tree is in order as text", lambda: [counted(".ci/texts")], runs_program=False),
 }
-USUAL = ["rows", "examples", "screen", "scripts", "tool_texts"]
+USUAL = ["rows", "examples", "screen", "scripts", "tool_texts", "tool_ports"]
 
 
 def stop(status, line):
