@@ -200,7 +200,9 @@ def stops_nothing(program, folder):
     demand("stop", tool("stop", port), (8, "", "thriftd stop: nobody listens at port %s\n" % port))
     with answering() as port:
         status, out, err = tool("stop", port)
-        demand_like("stop", err, "thriftd stop: port %d is listened at by process .*, which is no thriftd serve\n" % port)
+        demand_like(
+            "stop", err, "thriftd stop: port %d is listened at by process .*, which is no thriftd serve\n" % port
+        )
         demand("stop's status", (status, out), (8, ""))
     for words in ([], ["0"], ["65536"], ["x"], ["1", "--wait", "0"], ["1", "2"]):
         status, out, err = tool("stop", *words)
@@ -314,7 +316,11 @@ def taps_many(program, folder):
     sent = {}
     for connection, data in re.findall("data ([0-9]+) ([0-9a-f]+)", text_of(script)):
         sent[connection] = sent.get(connection, "") + data
-    demand("the script's bytes", sorted(sent.values()), sorted(len(it).to_bytes(4, "big").hex() + it.hex() for it in payloads))
+    demand(
+        "the script's bytes",
+        sorted(sent.values()),
+        sorted(len(it).to_bytes(4, "big").hex() + it.hex() for it in payloads),
+    )
     demand("the replies", sorted(text_of(replies).split()[2::3]), sorted(it[::-1].hex() for it in payloads))
 
 
@@ -463,10 +469,22 @@ def plays_at_others(program, folder):
         (of(frame + b"\0\0"), [], (0, "reply 0 %s\nrest 0 0000\n" % TWO, "")),
         (of(frame[:9]), [], (23, "rest 0 %s\n" % frame[:9].hex(), none)),
         (of(b"HTTP/1.1"), [], (23, "rest 0 485454502f312e31\n", none)),
-        (of(frame * 2), ["--compare", kept], (24, "connection 0, reply 1: it came, and was not there: .*1 differ\n", "")),
-        (of(frame[:9]), ["--compare", kept], (24, "connection 0, bytes behind .*connection 0, reply 0: none came, .*", "")),
+        (
+            of(frame * 2),
+            ["--compare", kept],
+            (24, "connection 0, reply 1: it came, and was not there: .*1 differ\n", ""),
+        ),
+        (
+            of(frame[:9]),
+            ["--compare", kept],
+            (24, "connection 0, bytes behind .*connection 0, reply 0: none came, .*", ""),
+        ),
         (of(frame + b"\0"), ["--fast", "--compare", kept], (24, "connection 0, bytes behind the last frame: .*", "")),
-        (of(b"", lambda link: time.sleep(0.8)), ["--timeout", "0.2"], (23, "", "thriftd play: script 2: no answer came on .*")),
+        (
+            of(b"", lambda link: time.sleep(0.8)),
+            ["--timeout", "0.2"],
+            (23, "", "thriftd play: script 2: no answer came on .*"),
+        ),
     ):
         with answering(answer) as port:
             got = tool("play", script, port, *words)
@@ -491,7 +509,13 @@ def refuses_input(program, folder):
             path = file_of(folder, "cut.script", text.decode("latin-1"))
             demand("play of %r" % text, tool("play", path, port), (done.returncode, "", wanted))
         script = os.path.join(TOP, "examples/ping.script")
-        for text, line in (("reply 0\n", 1), ("# a\nreply 0 0\n", 2), ("\nrest 00 00", 2), ("reply 0 00\ngone\n", 2), ("reply 0 \n", 1)):
+        for text, line in (
+            ("reply 0\n", 1),
+            ("# a\nreply 0 0\n", 2),
+            ("\nrest 00 00", 2),
+            ("reply 0 00\ngone\n", 2),
+            ("reply 0 \n", 1),
+        ):
             path = file_of(folder, "cut.replies", text)
             said = "thriftd play: %s: line %d is no line of replies\n" % (path, line)
             demand("replies %r" % text, tool("play", script, port, "--compare", path), (3, "", said))
@@ -533,7 +557,15 @@ def plays_large(program, folder):
 
 
 CASES = [stops, stops_late, stops_nothing, taps_pieces, taps_breaks, taps_until_signalled, taps_many]
-CASES += [taps_no_more_than_a_script, taps_nowhere, plays_examples, plays_values, plays_at_others, refuses_input, plays_large]
+CASES += [
+    taps_no_more_than_a_script,
+    taps_nowhere,
+    plays_examples,
+    plays_values,
+    plays_at_others,
+    refuses_input,
+    plays_large,
+]
 
 
 def within(case, program, *more):

@@ -3,10 +3,10 @@
 
 For both protocols, plain and multiplexed: clients of Apache's library (python3-thrift), with code that its compiler
 (thrift-compiler) writes from the tutorial's IDL, call Apache's threaded server in Python through `tools/tap`, several
-at once and one after the other. `tools/play` sends what was written at a fresh server, at each pace, and its replies have
-to compare equal; where a kept reply is changed, the difference has to be told by name. THRIFTD, or what ./thriftd runs,
-serves the script too (`rehearse`), and at least a third of the replies have to be the same, byte by byte: both know how
-to add. It ends with status 1 where something isn't so."""
+at once and one after the other. `tools/play` sends what was written at a fresh server, at each pace, and its replies
+have to compare equal; where a kept reply is changed, the difference has to be told by name. THRIFTD, or what ./thriftd
+runs, serves the script too (`rehearse`), and at least a third of the replies have to be the same, byte by byte: both
+know how to add. It ends with status 1 where something isn't so."""
 import os
 import random
 import re
@@ -70,9 +70,18 @@ def calls(types, seed):
     rng = random.Random(seed)
     number = lambda: rng.randrange(-1000, 1000)
     for _ in range(CALLS):
-        work = types.Work(num1=number(), num2=rng.randrange(0, 3), op=rng.randrange(1, 5), comment=rng.choice([None, "why"]))
+        work = types.Work(
+            num1=number(), num2=rng.randrange(0, 3), op=rng.randrange(1, 5), comment=rng.choice([None, "why"])
+        )
         method, args = rng.choice(
-            [("ping", ()), ("add", (number(), number())), ("add", (99, 1)), ("zip", ()), ("calculate", (1, work)), ("getStruct", (number(),))]
+            [
+                ("ping", ()),
+                ("add", (number(), number())),
+                ("add", (99, 1)),
+                ("zip", ()),
+                ("calculate", (1, work)),
+                ("getStruct", (number(),)),
+            ]
         )
         yield method, args
 
@@ -92,11 +101,24 @@ def call_all(modules, protocol, multiplexed, port, seed, results):
 def tapped(modules, folder, protocol, multiplexed, script, replies):
     """Clients call the server through a tap: first six one after the other, then six at once."""
     target, port, results = free_port(), free_port(), {}
-    words = [os.path.join(TOP, "tools/tap"), port, target, "--out", script, "--replies", replies, "--accept", str(CLIENTS)]
+    words = [
+        os.path.join(TOP, "tools/tap"),
+        port,
+        target,
+        "--out",
+        script,
+        "--replies",
+        replies,
+        "--accept",
+        str(CLIENTS),
+    ]
     with apache(folder, protocol, multiplexed, target):
         awaited(target)
         with Server(["python3", *words]) as tap:
-            several = [threading.Thread(target=call_all, args=(modules, protocol, multiplexed, port, seed, results)) for seed in range(CLIENTS)]
+            several = [
+                threading.Thread(target=call_all, args=(modules, protocol, multiplexed, port, seed, results))
+                for seed in range(CLIENTS)
+            ]
             for seed, client in enumerate(several):
                 client.start()
                 if seed < CLIENTS // 2:
@@ -167,8 +189,10 @@ def check(modules, thriftd, folder, protocol, multiplexed):
     same = rehearsed(thriftd, protocol, multiplexed, script, replies)
     if same < count // 3:
         sys.exit("tapped session: of %d replies the rehearsal has %d" % (count, same))
-    print("tapped session: %s%s: %d replies compare equal, played three times; a rehearsal has %d of them" %
-          (protocol, ", multiplexed" if multiplexed else "", count, same))
+    print(
+        "tapped session: %s%s: %d replies compare equal, played three times; a rehearsal has %d of them"
+        % (protocol, ", multiplexed" if multiplexed else "", count, same)
+    )
 
 
 def main():

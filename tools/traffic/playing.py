@@ -6,9 +6,10 @@ import socket
 import struct
 import time
 
-from frames import HEAD, Frames, awaits
-from ports import HOST, counted
 from texts.tool import Stop
+
+from .frames import HEAD, Frames, awaits
+from .words import HOST, counted
 
 NET_FAULT, NO_ANSWER = 8, 23
 READ, WRITE = selectors.EVENT_READ, selectors.EVENT_WRITE
@@ -73,7 +74,7 @@ class Connection:
 
 
 class Player:
-    """Plays a script at a port. What comes goes to a sink, by `came` a payload and by `rest` what is behind the last."""
+    """Plays a script at a port. What comes goes to a sink: by `came` each payload, by `rest` what is behind the last."""
 
     def __init__(self, port, patience, sink):
         self.port, self.patience, self.sink = port, patience, sink
@@ -99,7 +100,9 @@ class Player:
             link = socket.create_connection((HOST, self.port), self.patience)
         except OSError as fault:
             why = os.strerror(fault.errno) if fault.errno else fault
-            raise Stop(NET_FAULT, "script %d: port %d takes no connection: %s" % (line.number, self.port, why)) from None
+            raise Stop(
+                NET_FAULT, "script %d: port %d takes no connection: %s" % (line.number, self.port, why)
+            ) from None
         self.connections.append(Connection(len(self.connections), link))
         self.watch(self.connections[-1])
 

@@ -1,11 +1,12 @@
 """Replies that come, printed or compared with those that are kept: by their bytes, and as values with names."""
 import json
 
-from ports import counted
-from replies import write_line
 from texts import Fault
 from texts.values import tidied
 from texts.wire import PROTOCOLS, read_message
+
+from .replies import write_line
+from .words import counted
 
 # A payload that is larger isn't told as a value, nor are more differences of one.
 MOST_TOLD, MOST_DIFFERENCES, MOST_SHOWN = 1_048_576, 20, 200
@@ -166,7 +167,9 @@ class Comparer:
                 continue
             for frame in range(self.counts.get(connection, 0), len(places)):
                 self.differ += 1
-                self.tell(connection, "reply %d" % frame, "none came, and was %s" % self.shown(self.kept.whole(places[frame])))
+                self.tell(
+                    connection, "reply %d" % frame, "none came, and was %s" % self.shown(self.kept.whole(places[frame]))
+                )
         came = sum(self.counts.values())
         verdict = "%d differ" % self.differ if self.differ else "equal"
         more = ", %d of them in other bytes" % self.alike if self.alike else ""
