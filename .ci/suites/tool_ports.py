@@ -62,6 +62,14 @@ def tool(name, *words, given=b"", program=None):
     return done.returncode, done.stdout.decode(), done.stderr.decode()
 
 
+def loaded(name):
+    """A tool as a module."""
+    loader = SourceFileLoader(name, os.path.join(TOOLS, name))
+    tool_module = module_from_spec(spec_from_loader(name, loader))
+    loader.exec_module(tool_module)
+    return tool_module
+
+
 @contextlib.contextmanager
 def running(words):
     """Something that runs, and is killed at the end, or when its time is over."""
@@ -189,8 +197,15 @@ def stops_late(program, folder):
         status, out, err = tool("stop", port, "--wait", "0.3")
         said = "thriftd stop: took 2 connections; then the server at port %s took none for 0.3 seconds: " % port
         demand("stop", (status, out, err), (25, "", said + "clients hold it open by 1 connection\n"))
-        threading.Timer(0.5, client.close).start()
-        demand("stop", tool("stop", port), (0, "took 0 connections, and the server has ended\n", ""))
+        stop = loaded("stop")
+        waiting = lambda: sum(1 for it in stop.inodes(int(port), stop.OPEN) if not it)
+        # (the kernel's list changes while it is read, so the count may be off by some)
+        before = waiting()
+        with running(tool_words("stop", [port])) as again:
+            while waiting() < before + 40 and again.poll() is None:
+                time.sleep(0.02)
+            client.close()
+            demand("stop", ended(again), (0, "took 0 connections, and the server has ended\n", ""))
         demand("the server's end", ended(server)[:2], (0, "conn 0 End\nconn 1 End\nconn 2 End\ncalls 1\n"))
 
 
@@ -334,9 +349,7 @@ def taps_many(program, folder):
 
 def taps_no_more_than_a_script(program, folder):
     """A script that is full ends whole, as one of 1,024 connections or of so many bytes."""
-    loader = SourceFileLoader("tap", os.path.join(TOOLS, "tap"))
-    tap = module_from_spec(spec_from_loader("tap", loader))
-    loader.exec_module(tap)
+    tap = loaded("tap")
     tap.MOST_BYTES, tap.MOST_OPENINGS = 1000, 3
     path = os.path.join(folder, "full.script")
     for size, openings, pieces in ((1, 3, 60), (700, 1, 0), (200, 2, 1)):
