@@ -430,9 +430,7 @@ def plays_examples(program, folder):
         demand("two.script, fast", tool("play", script, port, "--fast"), (0, replies, ""))
         before = time.monotonic()
         demand("two.script in a second", tool("play", script, port, "--as", "1"), (0, replies, ""))
-        span = time.monotonic() - before
-        if not 0.4 < span < 5:
-            raise Found("a script that is to take a second took %g" % span)
+        demand("whether that takes a part of it at least", time.monotonic() - before > 0.4, True)
         given = b"open\nwrite 0 1\ndata 0 %s\nreadfail 0" % ADD.hex().encode()
         got = tool("play", "-", port, given=given)
         demand("a rule", got, (0, "reply 0 %s\n" % TWO, "thriftd play: 1 line passed over\n"))
@@ -480,8 +478,8 @@ def of(data, after=lambda link: None):
     return answer
 
 
-def misbehaved(kept):
-    """Servers that misbehave, the words of `play`, and what it comes to."""
+def misbehaved(kept, is_over):
+    """Servers that misbehave, the words of `play`, and what it comes to; the last waits until that is over."""
     frame = (23).to_bytes(4, "big") + bytes.fromhex(TWO)
     compare, none = ["--compare", kept], "thriftd play: 1 call had no answer\n"
     more = "connection 0, reply 1: it came, and was not there: .*1 differ\n"
@@ -495,15 +493,18 @@ def misbehaved(kept):
     yield of(frame * 2), compare, (24, more, "")
     yield of(frame[:9]), compare, (24, cut, "")
     yield of(frame + b"\0"), ["--fast", *compare], (24, "connection 0, bytes behind the last frame: .*", "")
-    yield of(b"", lambda link: time.sleep(0.8)), ["--timeout", "0.2"], (23, "", late)
+    yield of(b"", lambda link: is_over.wait(SECONDS)), ["--timeout", "0.2"], (23, "", late)
 
 
 def plays_at_others(program, folder):
     """Servers that misbehave are told."""
     script = file_of(folder, "one.script", "open\ndata 0 %s\nend 0\n" % ADD.hex())
-    for answer, words, wanted in misbehaved(file_of(folder, "kept", "reply 0 %s\n" % TWO)):
+    is_over = threading.Event()
+    for answer, words, wanted in misbehaved(file_of(folder, "kept", "reply 0 %s\n" % TWO), is_over):
+        is_over.clear()
         with answering(answer) as port:
             got = tool("play", script, port, *words)
+            is_over.set()
         for what, part, like in zip(("status", "output", "errors"), got, wanted):
             demand_like("play's %s" % what, str(part), str(like))
     port = free_port()
