@@ -1,6 +1,6 @@
 """Tests the program that ./thriftd runs, in a minute and without the kit.
 
-./test                 runs the suites rows, examples, screen and scripts
+./test                 runs the suites rows, examples, screen, start and scripts
 ./test NAME ..         runs these suites, or the rows of a file (rows/words.rows)
 ./test --all           runs everything, in an hour or two: proofs, tests and edits by `rt ci`, then all suites by the
                        programs that both compilers built
@@ -20,6 +20,7 @@ import examples
 import rows
 import screen
 import scripts
+import start
 from suite import Outcome, Programs, Test, Unfit, both_built, counted, found_programs, named_program, outcome_of
 
 MOST_LINES = 100
@@ -44,10 +45,11 @@ SUITES = {
     "rows": Suite("%d rows", "each row of rows/ comes to what it says", lambda programs: rows.tests(programs, rows.files_of_rows())),
     "examples": Suite("%d examples", "each example of examples/ comes to what is kept beside it", examples.tests),
     "screen": Suite("README's first screen", "what README.md begins with prints what it says, at a real port", screen.tests),
+    "start": Suite("%d tests of the script thriftd", "it prints help, tells what is wrong with words, runs tools and holds journals", start.tests),
     "scripts": Suite("%d tests of the scripts", "./test and .ci/texts fail where they have to", scripts.tests, runs_program=False),
     "texts": Suite("%d checks of the tree as text", "the tree is in order as text", lambda: [counted(".ci/texts")], runs_program=False),
 }
-USUAL = ["rows", "examples", "screen", "scripts"]
+USUAL = ["rows", "examples", "screen", "start", "scripts"]
 
 
 def stop(status, line):

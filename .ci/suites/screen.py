@@ -131,7 +131,7 @@ def tests(programs):
     """The tests of each program: the session by bytes and by Apache's library, and each other server."""
     with open(os.path.join(TOP, "README.md"), encoding="utf-8") as readme:
         text = readme.read()
-    blocks = re.findall(r"^```\n(.*?)^```$", text, re.MULTILINE | re.DOTALL)
+    blocks = re.findall(r"^```(?:sh)?\n(.*?)^```$", text, re.MULTILINE | re.DOTALL)
     serving = [at for at, block in enumerate(blocks) if block.startswith(COMMAND)]
     says = re.findall(r"It prints `([^`]*)`", text)
     if not serving or len(blocks) < serving[0] + 6 or len(says) < 2:

@@ -57,12 +57,13 @@ class Place:
     def copied(self):
         """A copy of the scripts, with one source that dist/ isn't of."""
         self.top = os.path.join(self.folder, "copy")
-        for name in (".ci", "dist", "examples"):
+        for name in (".ci", "dist", "examples", "tools"):
             shutil.copytree(os.path.join(TOP, name), os.path.join(self.top, name), ignore=shutil.ignore_patterns("__pycache__"))
-        for name in ("thriftd", "test", "README.md"):
+        for name in ("thriftd", "test", "README.md", "VERSION"):
             shutil.copy(os.path.join(TOP, name), self.top)
         # (these tests would begin anew there, and again)
         self.write("copy/.ci/suites/scripts.py", "def tests():\n    return []\n")
+        self.write("copy/.ci/suites/start.py", "def tests(programs):\n    return []\n")
         self.write("copy/rows/a.rows", ROWS)
         self.write("copy/crates.txt", "thriftd:\n")
         self.write("copy/crates/thriftd/src/main.rt", "fn main() {}\n")

@@ -73,6 +73,8 @@ tool_says() {
       '"""'*) line=${line#'"""'} ;;
       '# '*) line=${line#'# '} ;;
     esac
+    line=${line%'"""'}
+    line=${line%%: docs/*}
     line=${line%%. *}
     what=${line%[.:]}
     return
