@@ -1,6 +1,6 @@
 """Tests the program that ./thriftd runs, in a minute and without the kit.
 
-./test                 runs the suites rows, examples, screen, start and scripts
+./test                 runs the suites rows, examples, screen, pages, start and scripts
 ./test NAME ..         runs these suites, or the rows of a file (rows/words.rows)
 ./test --all           runs everything, in an hour or two: proofs, tests and edits by `rt ci`, then all suites by the
                        programs that both compilers built
@@ -17,6 +17,7 @@ from dataclasses import dataclass
 from typing import Callable
 
 import examples
+import pages
 import rows
 import screen
 import scripts
@@ -45,11 +46,12 @@ SUITES = {
     "rows": Suite("%d rows", "each row of rows/ comes to what it says", lambda programs: rows.tests(programs, rows.files_of_rows())),
     "examples": Suite("%d examples", "each example of examples/ comes to what is kept beside it", examples.tests),
     "screen": Suite("README's first screen", "what README.md begins with prints what it says, at a real port", screen.tests),
+    "pages": Suite("%d sections of the pages", "each command of README, RUNNING, TROUBLESHOOTING and COOKBOOK prints what they say", pages.tests),
     "start": Suite("%d tests of the script thriftd", "it prints help, tells what is wrong with words, runs tools and holds journals", start.tests),
     "scripts": Suite("%d tests of the scripts", "./test and .ci/texts fail where they have to", scripts.tests, runs_program=False),
     "texts": Suite("%d checks of the tree as text", "the tree is in order as text", lambda: [counted(".ci/texts")], runs_program=False),
 }
-USUAL = ["rows", "examples", "screen", "start", "scripts"]
+USUAL = ["rows", "examples", "screen", "pages", "start", "scripts"]
 
 
 def stop(status, line):
