@@ -1,6 +1,6 @@
 """Tests the program that ./thriftd runs, in a minute and without the kit.
 
-./test                 runs the suites rows, examples, screen, pages, start and scripts
+./test                 runs all suites but texts
 ./test NAME ..         runs these suites, or the rows of a file (rows/words.rows)
 ./test --all           runs everything, in an hour or two: proofs, tests and edits by `rt ci`, then all suites by the
                        programs that both compilers built
@@ -22,6 +22,8 @@ import rows
 import screen
 import scripts
 import start
+import tool_ports
+import tool_texts
 from suite import Outcome, Programs, Test, Unfit, both_built, counted, found_programs, named_program, outcome_of
 
 MOST_LINES = 100
@@ -49,9 +51,11 @@ SUITES = {
     "pages": Suite("%d sections of the pages", "each command of README, RUNNING, TROUBLESHOOTING and COOKBOOK prints what they say", pages.tests),
     "start": Suite("%d tests of the script thriftd", "it prints help, tells what is wrong with words, runs tools and holds journals", start.tests),
     "scripts": Suite("%d tests of the scripts", "./test and .ci/texts fail where they have to", scripts.tests, runs_program=False),
+    "tool_ports": Suite("%d tests of stop, tap and play", "the tools at ports do as docs/TOOLS.md says", tool_ports.tests),
+    "tool_texts": Suite("%d tests of tools/texts", "the tools' module reads what the program writes", tool_texts.tests),
     "texts": Suite("%d checks of the tree as text", "the tree is in order as text", lambda: [counted(".ci/texts")], runs_program=False),
 }
-USUAL = ["rows", "examples", "screen", "pages", "start", "scripts"]
+USUAL = [name for name in SUITES if name != "texts"]
 
 
 def stop(status, line):
