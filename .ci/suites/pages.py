@@ -5,8 +5,8 @@ A block that is marked `sh` is given to a shell as it stands, in a folder of the
 of a clone. Between it and the next such block the page may say
 
 - what it prints, on standard output, standard error or both, one behind the other: by the first block that isn't
-  marked, or as prints `LINE`;
-- its status, as `status N`: the first that is named, and 0 where none is.
+  marked, or in the next paragraph as prints `LINE`;
+- its status, in that paragraph as `status N`: the first that is named, and 0 where none is.
 
 A block that begins with `./thriftd serve` or `./thriftd tap` is a terminal of its own: it goes on beside those that
 follow, once it listens, and what it prints until then is compared. Every port (90NN) stands for a free one, and /tmp for
@@ -25,7 +25,7 @@ from typing import Optional
 from screen import LIBRARY, free_port, has_library
 from suite import SECONDS, TOP, Found, LeftOut, Test, Unfit
 
-PAGES = ["README.md", "docs/RUNNING.md"]
+PAGES = ["README.md", "docs/RUNNING.md", "docs/TROUBLESHOOTING.md"]
 FENCE = re.compile(r"^```(\w*)\n(.*?)^```$", re.MULTILINE | re.DOTALL)
 BESIDE = re.compile(r"\./thriftd (serve|tap) ")
 PORTS = re.compile(r"\b90\d\d\b")
@@ -50,7 +50,7 @@ class Step:
 def said_behind(text):
     """What a page says behind a block: what that prints, and its status."""
     shown = next((it for it in FENCE.finditer(text) if not it[1]), None)
-    words = FENCE.sub("", text)
+    words = FENCE.sub("", text).strip().split("\n\n")[0]
     line = re.search(r"\bprints `([^`]*)`", words)
     status = re.search(r"\bstatus (?:is )?(\d+)", words)
     prints = shown[2] if shown else line[1] + "\n" if line else None
