@@ -17,6 +17,7 @@ from dataclasses import dataclass
 from typing import Callable
 
 import examples
+import package
 import pages
 import rows
 import screen
@@ -50,6 +51,7 @@ SUITES = {
     "screen": Suite("README's first screen", "what README.md begins with prints what it says, at a real port", screen.tests),
     "pages": Suite("%d sections of the pages", "each command of README, RUNNING, TROUBLESHOOTING and COOKBOOK prints what they say", pages.tests),
     "start": Suite("%d tests of the script thriftd", "it prints help, tells what is wrong with words, runs tools and holds journals", start.tests),
+    "package": Suite("%d tests of the package", "the Debian package of the program in dist/ installs, and does as the first screen says", package.tests, runs_program=False),
     "scripts": Suite("%d tests of the scripts", "./test and .ci/texts fail where they have to", scripts.tests, runs_program=False),
     "tool_ports": Suite("%d tests of stop, tap and play", "the tools at ports do as docs/TOOLS.md says", tool_ports.tests),
     "tool_texts": Suite("%d tests of tools/texts", "the tools' module reads what the program writes", tool_texts.tests),
