@@ -25,7 +25,7 @@ from typing import Optional
 from screen import LIBRARY, free_port, has_library
 from suite import SECONDS, TOP, Found, LeftOut, Test, Unfit
 
-PAGES = ["README.md", "docs/RUNNING.md", "docs/TROUBLESHOOTING.md"]
+PAGES = ["README.md", "docs/RUNNING.md", "docs/TROUBLESHOOTING.md", "docs/COOKBOOK.md"]
 FENCE = re.compile(r"^```(\w*)\n(.*?)^```$", re.MULTILINE | re.DOTALL)
 BESIDE = re.compile(r"\./thriftd (serve|tap) ")
 PORTS = re.compile(r"\b90\d\d\b")
@@ -128,7 +128,7 @@ class Place:
             return
         done = self.shell(step.text, subprocess.PIPE)
         self.open.append(done)
-        output, errors = done.communicate(timeout=SECONDS)
+        output, errors = done.communicate(timeout=3 * SECONDS)
         if wanted not in (None, output, errors, output + errors):
             raise Found("%s prints %r, and not as the page says %r" % (step, output + errors, wanted))
         if done.returncode != step.status:
