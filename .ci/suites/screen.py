@@ -2,7 +2,7 @@
 
 Taken are the first block that begins with `./thriftd serve` and the six behind it: what the server says, the command
 that calls it, the client in Python, the one that stops it, and the journal with the command that prints it. They run in
-a folder of their own, with `./thriftd` as it stands, and at a port that is free. The client's two calls are made by
+a folder of their own, with the script's path in place of `./thriftd`, and at a port that is free. The client's two calls are made by
 bytes too, so that the rest is seen where Apache's library isn't installed. Then each other block that begins so has to
 listen."""
 import contextlib
@@ -10,6 +10,7 @@ import functools
 import os
 import random
 import re
+import shlex
 import shutil
 import socket
 import subprocess
@@ -40,24 +41,23 @@ def free_port():
 
 
 @contextlib.contextmanager
-def room(script, examples):
-    """A folder with the script and the examples."""
+def room(examples):
+    """A folder with the examples."""
     with tempfile.TemporaryDirectory(prefix="thriftd-screen-") as folder:
         os.symlink(examples, os.path.join(folder, "examples"))
-        os.symlink(script, os.path.join(folder, "thriftd"))
         yield folder
 
 
-def paste(block, settings, folder, **streams):
-    """Starts a block as a shell does into which it is pasted."""
-    text = re.sub("^(?=./thriftd)", "exec ", block).replace("/tmp/gen", os.path.join(folder, "gen"))
-    return subprocess.Popen(["bash", "-c", text], cwd=folder, env=settings, stdout=subprocess.PIPE, text=True, **streams)
+def paste(block, program, folder, **streams):
+    """Starts a block as a shell does into which it is pasted, with a program or the script in place of ./thriftd."""
+    text = block.replace("./thriftd", "exec " + shlex.quote(program)).replace("/tmp/gen", os.path.join(folder, "gen"))
+    return subprocess.Popen(["bash", "-c", text], cwd=folder, stdout=subprocess.PIPE, text=True, **streams)
 
 
 @contextlib.contextmanager
-def served(block, settings, folder, **streams):
+def served(block, program, folder, **streams):
     """A block that runs, and is killed at the end, or when its time is over."""
-    server = paste(block, settings, folder, **streams)
+    server = paste(block, program, folder, **streams)
     timer = threading.Timer(SECONDS, server.kill)
     timer.start()
     try:
@@ -79,20 +79,20 @@ def has_library():
     return bool(shutil.which("thrift")) and os.path.exists(words[0]) and not subprocess.run(words, stderr=subprocess.DEVNULL, check=False).returncode
 
 
-def pasted(block, settings, folder):
+def pasted(block, start, folder):
     """What a block prints."""
-    with served(block, settings, folder, stderr=subprocess.STDOUT) as run:
+    with served(block, start.script, folder, env=start.settings, stderr=subprocess.STDOUT) as run:
         return run.stdout.read()
 
 
-def called_by_library(block, settings, folder, port):
+def called_by_library(block, start, folder, port):
     """What the client of Apache's library prints."""
     if not has_library():
         raise LeftOut(LIBRARY)
-    return pasted(block, settings, folder)
+    return pasted(block, start, folder)
 
 
-def called_by_bytes(block, settings, folder, port):
+def called_by_bytes(block, start, folder, port):
     """The same, by bytes: both answers are numbers, and stand at the end of their replies."""
     answers = []
     with socket.create_connection(("127.0.0.1", int(port)), timeout=SECONDS) as link, link.makefile("rb") as replies:
@@ -120,23 +120,22 @@ def start_of(program):
 
 def session(screen, client, start):
     """The server that is called by the command and by a client, and is stopped."""
-    port, settings = free_port(), start.settings
+    port = free_port()
     serving, listening, command, calling, stopping, printing, journal = (it.replace(PORT, port) for it in screen.blocks)
-    with room(start.script, start.examples) as folder, served(serving, settings, folder) as server:
+    with room(start.examples) as folder, served(serving, start.script, folder, env=start.settings) as server:
         compare("the server's first line", server.stdout.readline(), listening)
-        compare("what the command prints", pasted(command, settings, folder), screen.says[0] + "\n")
-        compare("what the client prints", client(calling, settings, folder, port), screen.says[1] + "\n")
-        compare("what stops it prints", pasted(stopping, settings, folder), screen.says[2] + "\n")
-        first, last, calls = screen.summary
+        compare("what the command prints", pasted(command, start, folder), screen.says[0] + "\n")
+        compare("what the client prints", client(calling, start, folder, port), screen.says[1] + "\n")
+        compare("what stops it prints", pasted(stopping, start, folder), screen.says[2] + "\n")
         lines = server.stdout.read().splitlines()
-        compare("the summary", [*lines[:1], *lines[-2:]], [first, last, calls])
+        compare("the summary", (*lines[:1], *lines[-2:]), screen.summary)
         compare("the server's status", server.wait(), 0)
-        compare("the journal", pasted(printing, settings, folder), journal)
+        compare("the journal", pasted(printing, start, folder), journal)
 
 
 def listens(block, start):
     port = free_port()
-    with room(start.script, start.examples) as folder, served(block.replace(PORT, port), start.settings, folder) as server:
+    with room(start.examples) as folder, served(block.replace(PORT, port), start.script, folder, env=start.settings) as server:
         compare("the first line of %s" % block.strip(), server.stdout.readline(), "listening 127.0.0.1:%s\n" % port)
 
 
