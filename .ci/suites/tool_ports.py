@@ -62,6 +62,14 @@ def tool(name, *words, given=b"", program=None):
     return done.returncode, done.stdout.decode(), done.stderr.decode()
 
 
+def loaded(name):
+    """A tool as a module."""
+    loader = SourceFileLoader(name, os.path.join(TOOLS, name))
+    tool_module = module_from_spec(spec_from_loader(name, loader))
+    loader.exec_module(tool_module)
+    return tool_module
+
+
 @contextlib.contextmanager
 def running(words):
     """Something that runs, and is killed at the end, or when its time is over."""
@@ -189,8 +197,15 @@ def stops_late(program, folder):
         status, out, err = tool("stop", port, "--wait", "0.3")
         said = "thriftd stop: took 2 connections; then the server at port %s took none for 0.3 seconds: " % port
         demand("stop", (status, out, err), (25, "", said + "clients hold it open by 1 connection\n"))
-        threading.Timer(0.5, client.close).start()
-        demand("stop", tool("stop", port), (0, "took 0 connections, and the server has ended\n", ""))
+        stop = loaded("stop")
+        waiting = lambda: sum(1 for it in stop.inodes(int(port), stop.OPEN) if not it)
+        # (the kernel's list changes while it is read, so the count may be off by some)
+        before = waiting()
+        with running(tool_words("stop", [port])) as again:
+            while waiting() < before + 40 and again.poll() is None:
+                time.sleep(0.02)
+            client.close()
+            demand("stop", ended(again), (0, "took 0 connections, and the server has ended\n", ""))
         demand("the server's end", ended(server)[:2], (0, "conn 0 End\nconn 1 End\nconn 2 End\ncalls 1\n"))
 
 
@@ -215,15 +230,19 @@ def stops_nothing(program, folder):
 def taps_pieces(program, folder):
     """Pieces are written as they come; a half that is closed, and a reply that is cut, are passed on."""
 
+    has_come = threading.Event()
+
     def answer(link):
-        data = read_all(link)
+        data = link.recv(2)
+        has_come.set()
+        data += read_all(link)
         link.sendall(len(data).to_bytes(4, "big") + data + b"\0\0")
 
     with answering(answer) as target, tapped(folder, target, "--accept", "1") as (tap, port, script, replies):
         with dial(port) as client:
-            for piece in (b"ab", b"cde"):
-                client.sendall(piece)
-                time.sleep(0.1)
+            client.sendall(b"ab")
+            has_come.wait(SECONDS)
+            client.sendall(b"cde")
             client.shutdown(socket.SHUT_WR)
             demand("the reply", read_all(client), b"\0\0\0\5abcde\0\0")
         demand("the tap's end", ended(tap), (0, "1 connection, 2 pieces\n", ""))
@@ -260,8 +279,12 @@ def taps_breaks(program, folder):
     demand("whether the target is reset", seen, [True])
     nobody = free_port()
     with tapped(folder, nobody, "--accept", "1") as (tap, port, script, replies):
-        with dial(port) as client:
-            demand("whether the client is reset", is_reset(client), True)
+        try:
+            with dial(port) as client:
+                demand("whether the client is reset", is_reset(client), True)
+        except ConnectionError:
+            # (that was at once)
+            pass
         said = "thriftd tap: port %s took no connection: Connection refused\n" % nobody
         demand("the tap's end", ended(tap), (0, "0 connections, 0 pieces\n", said))
 
@@ -281,54 +304,52 @@ def taps_until_signalled(program, folder):
                 client.close()
 
 
+def echo(link):
+    """Answers each frame by its bytes from behind."""
+    with link, link.makefile("rb") as frames:
+        for size in iter(lambda: frames.read(4), b""):
+            link.sendall(size + frames.read(int.from_bytes(size, "big"))[::-1])
+
+
+def echoed(port, payload, got):
+    with dial(port) as link:
+        link.sendall(len(payload).to_bytes(4, "big") + payload)
+        link.shutdown(socket.SHUT_WR)
+        got[payload] = read_all(link)[4:]
+
+
+def at_once(function, *words):
+    """Runs a function at once on each of several words."""
+    threads = [threading.Thread(target=function, args=it, daemon=True) for it in zip(*words)]
+    for thread in threads:
+        thread.start()
+    for thread in threads:
+        thread.join(SECONDS)
+
+
 def taps_many(program, folder):
     """What 40 clients at once send and get comes unchanged, and stands in the script and the replies."""
-    random_bytes = random.Random(5).randbytes
-
-    def echo(link):
-        with link.makefile("rb") as frames:
-            for size in iter(lambda: frames.read(4), b""):
-                link.sendall(size + frames.read(int.from_bytes(size, "big"))[::-1])
-        link.close()
-
-    def serve(listening):
-        for _ in range(40):
-            threading.Thread(target=echo, args=(listening.accept()[0],), daemon=True).start()
-
-    def call(port, payload, got):
-        with dial(port) as link:
-            link.sendall(len(payload).to_bytes(4, "big") + payload)
-            link.shutdown(socket.SHUT_WR)
-            got[payload] = read_all(link)[4:]
-
+    payloads, got = [random.Random(5).randbytes(1 + 5000 * number) for number in range(40)], {}
     with socket.create_server((HOST, 0), backlog=64) as listening:
-        threading.Thread(target=serve, args=(listening,), daemon=True).start()
+        serve = lambda: at_once(echo, [listening.accept()[0] for _ in payloads])
+        threading.Thread(target=serve, daemon=True).start()
         with tapped(folder, listening.getsockname()[1], "--accept", "40") as (tap, port, script, replies):
-            got, payloads = {}, [random_bytes(1 + 5000 * number) for number in range(40)]
-            clients = [threading.Thread(target=call, args=(port, it, got)) for it in payloads]
-            for client in clients:
-                client.start()
-            for client in clients:
-                client.join()
+            at_once(echoed, [port] * 40, payloads, [got] * 40)
             demand("the tap's status", ended(tap)[0], 0)
     wrong = [len(it) for it in payloads if got.get(it) != it[::-1]]
     demand("the sizes of what comes changed", wrong, [])
     sent = {}
     for connection, data in re.findall("data ([0-9]+) ([0-9a-f]+)", text_of(script)):
         sent[connection] = sent.get(connection, "") + data
-    demand(
-        "the script's bytes",
-        sorted(sent.values()),
-        sorted(len(it).to_bytes(4, "big").hex() + it.hex() for it in payloads),
-    )
-    demand("the replies", sorted(text_of(replies).split()[2::3]), sorted(it[::-1].hex() for it in payloads))
+    frames = sorted(len(it).to_bytes(4, "big").hex() + it.hex() for it in payloads)
+    demand("whether the script has the bytes", sorted(sent.values()) == frames, True)
+    found = sorted(text_of(replies).split()[2::3])
+    demand("whether the replies are there", found == sorted(it[::-1].hex() for it in payloads), True)
 
 
 def taps_no_more_than_a_script(program, folder):
     """A script that is full ends whole, as one of 1,024 connections or of so many bytes."""
-    loader = SourceFileLoader("tap", os.path.join(TOOLS, "tap"))
-    tap = module_from_spec(spec_from_loader("tap", loader))
-    loader.exec_module(tap)
+    tap = loaded("tap")
     tap.MOST_BYTES, tap.MOST_OPENINGS = 1000, 3
     path = os.path.join(folder, "full.script")
     for size, openings, pieces in ((1, 3, 60), (700, 1, 0), (200, 2, 1)):
@@ -409,9 +430,7 @@ def plays_examples(program, folder):
         demand("two.script, fast", tool("play", script, port, "--fast"), (0, replies, ""))
         before = time.monotonic()
         demand("two.script in a second", tool("play", script, port, "--as", "1"), (0, replies, ""))
-        span = time.monotonic() - before
-        if not 0.4 < span < 5:
-            raise Found("a script that is to take a second took %g" % span)
+        demand("whether that takes a part of it at least", time.monotonic() - before > 0.4, True)
         given = b"open\nwrite 0 1\ndata 0 %s\nreadfail 0" % ADD.hex().encode()
         got = tool("play", "-", port, given=given)
         demand("a rule", got, (0, "reply 0 %s\n" % TWO, "thriftd play: 1 line passed over\n"))
@@ -448,52 +467,49 @@ def plays_values(program, folder):
         demand("bytes", (status, out), (24, "\n".join(lines) + "\n"))
 
 
+def of(data, after=lambda link: None):
+    """A server that answers the first bytes with these, and then does something."""
+
+    def answer(link):
+        link.recv(100)
+        link.sendall(data)
+        after(link)
+
+    return answer
+
+
+def misbehaved(kept, is_over):
+    """Servers that misbehave, the words of `play`, and what it comes to; the last waits until that is over."""
+    frame = (23).to_bytes(4, "big") + bytes.fromhex(TWO)
+    compare, none = ["--compare", kept], "thriftd play: 1 call had no answer\n"
+    more = "connection 0, reply 1: it came, and was not there: .*1 differ\n"
+    cut = "connection 0, bytes behind .*connection 0, reply 0: none came, and was .*2 differ\n"
+    late = "thriftd play: script 2: no answer came on connection 0 in 0.2 seconds, .*"
+    yield of(b""), [], (23, "", none)
+    yield of(b"", reset), [], (23, "", none)
+    yield of(frame + b"\0\0"), [], (0, "reply 0 %s\nrest 0 0000\n" % TWO, "")
+    yield of(frame[:9]), [], (23, "rest 0 %s\n" % frame[:9].hex(), none)
+    yield of(b"HTTP/1.1"), [], (23, "rest 0 485454502f312e31\n", none)
+    yield of(frame * 2), compare, (24, more, "")
+    yield of(frame[:9]), compare, (24, cut, "")
+    yield of(frame + b"\0"), ["--fast", *compare], (24, "connection 0, bytes behind the last frame: .*", "")
+    yield of(b"", lambda link: is_over.wait(SECONDS)), ["--timeout", "0.2"], (23, "", late)
+
+
 def plays_at_others(program, folder):
     """Servers that misbehave are told."""
     script = file_of(folder, "one.script", "open\ndata 0 %s\nend 0\n" % ADD.hex())
-    two, frame = bytes.fromhex(TWO), (23).to_bytes(4, "big") + bytes.fromhex(TWO)
-    kept = file_of(folder, "kept", "reply 0 %s\n" % TWO)
-    none = "thriftd play: 1 call had no answer\n"
-
-    def of(data, after=lambda link: None):
-        def answer(link):
-            link.recv(100)
-            link.sendall(data)
-            after(link)
-
-        return answer
-
-    for answer, words, wanted in (
-        (of(b""), [], (23, "", none)),
-        (of(b"", reset), [], (23, "", none)),
-        (of(frame + b"\0\0"), [], (0, "reply 0 %s\nrest 0 0000\n" % TWO, "")),
-        (of(frame[:9]), [], (23, "rest 0 %s\n" % frame[:9].hex(), none)),
-        (of(b"HTTP/1.1"), [], (23, "rest 0 485454502f312e31\n", none)),
-        (
-            of(frame * 2),
-            ["--compare", kept],
-            (24, "connection 0, reply 1: it came, and was not there: .*1 differ\n", ""),
-        ),
-        (
-            of(frame[:9]),
-            ["--compare", kept],
-            (24, "connection 0, bytes behind .*connection 0, reply 0: none came, .*", ""),
-        ),
-        (of(frame + b"\0"), ["--fast", "--compare", kept], (24, "connection 0, bytes behind the last frame: .*", "")),
-        (
-            of(b"", lambda link: time.sleep(0.8)),
-            ["--timeout", "0.2"],
-            (23, "", "thriftd play: script 2: no answer came on .*"),
-        ),
-    ):
+    is_over = threading.Event()
+    for answer, words, wanted in misbehaved(file_of(folder, "kept", "reply 0 %s\n" % TWO), is_over):
+        is_over.clear()
         with answering(answer) as port:
             got = tool("play", script, port, *words)
+            is_over.set()
         for what, part, like in zip(("status", "output", "errors"), got, wanted):
             demand_like("play's %s" % what, str(part), str(like))
     port = free_port()
     said = "thriftd play: script 1: port %s takes no connection: Connection refused\n" % port
     demand("play where nobody listens", tool("play", script, port), (8, "", said))
-    demand("the frame's payload", frame[4:], two)
 
 
 def refuses_input(program, folder):

@@ -136,8 +136,8 @@ def example_entries():
             read = entries.read_line(line)
             if isinstance(read, entries.Entry):
                 demand(entries.entry_line(read) == line, "%s is written as %s", line, entries.entry_line(read))
-                for cut in range(len(line)):
-                    demand(fault_of(entries.read_line, line[:cut]), "%s is read", line[:cut])
+                cuts = [line[:cut] for cut in range(len(line))]
+                demand(all(fault_of(entries.read_line, it) for it in cuts), "a beginning of %s is read", line)
     for line in (
         "",
         "call",

@@ -1,8 +1,11 @@
-"""The top of the tree, and the program that the script `thriftd` there runs."""
+"""The top of the tree, and the program that the script `thriftd` there runs. Behind this import the module `texts` of
+tools/ is found."""
 import os
 import subprocess
+import sys
 
 TOP = os.path.dirname(os.path.dirname(os.path.dirname(os.path.abspath(__file__))))
+sys.path.append(os.path.join(TOP, "tools"))
 
 
 def built_program():

@@ -12,11 +12,11 @@ import subprocess
 import sys
 import tempfile
 
-import change_model as model
 from built import built_program
-from change_mixes import ended, random_change, written
+from change_mixes import checked, ended, random_change, written
+from texts.compat import Comparison, plain as bytes_type
 
-TAGS = {"bool": 2, "i8": 3, "double": 4, "i16": 6, "i32": 8, "i64": 10, "string": 11, "struct": 12, "map": 13, "set": 14, "list": 15}
+TAGS = {"bool": 2, "i8": 3, "double": 4, "i16": 6, "i32": 8, "i64": 10, "bytes": 11, "struct": 12, "map": 13, "set": 14, "list": 15}
 WIDTHS = {2: 1, 3: 1, 4: 8, 6: 2, 8: 4, 10: 8}
 TOO_LARGE = (b"Bad arguments: TooDeep", b"Bad arguments: TooMany")
 
@@ -34,7 +34,7 @@ def tag_of(t):
 def scalar(rng, t):
     if t == "bool":
         return bytes([rng.randrange(2)])
-    if t == "string":
+    if t == "bytes":
         return rng.randbytes(rng.choice([0, 1, 3, 20]))
     width = WIDTHS[TAGS[t]]
     return rng.choice([bytes(width), b"\xff" * width, b"\x80" + bytes(width - 1), rng.randbytes(width)])
@@ -46,15 +46,14 @@ def random_value(rng, schema, t, depth=0):
     if isinstance(t, str):
         return TAGS[t], scalar(rng, t)
     if t[0] == "struct":
-        d = model.find(schema, *t[1:], model.STRUCTS)
-        fields = model.numbered(d["fields"])
-        if d["sort"] == "union":
-            if not fields:
+        d = schema.named[t[1:]]
+        if d.sort == "union":
+            if not d.fields:
                 raise NoValue
-            sent = [rng.choice(fields)]
+            sent = [rng.choice(d.fields)]
         else:
-            sent = [(number, field) for number, field in fields if field["need"] == "required" or rng.random() < (0.7 if depth < 6 else 0.1)]
-        return 12, [(number, random_value(rng, schema, model.resolved(schema, field["type"]), depth + 1)) for number, field in sent]
+            sent = [field for field in d.fields if field.need == "required" or rng.random() < (0.7 if depth < 6 else 0.1)]
+        return 12, [(field.id, random_value(rng, schema, bytes_type(schema, field.type), depth + 1)) for field in sent]
     size = rng.choice([0, 1, 2, 4]) if depth < 4 else 0
     items = [tuple(random_value(rng, schema, part, depth + 1) for part in t[1:]) for _ in range(size)]
     if t[0] != "list":
@@ -74,12 +73,17 @@ def plain(value):
     return frozenset((number, plain(item)) for number, item in part) if tag == 12 else part
 
 
+def types_of(schema, t):
+    """The types of a struct's fields, by their ids."""
+    return {field.id: bytes_type(schema, field.type) for field in schema.named[t[1:]].fields}
+
+
 def is_kept(reader, t, value, read):
     if value[0] != read[0]:
         return False
     if t[0] == "struct":
-        known, there = dict(model.numbered(model.find(reader, *t[1:], model.STRUCTS)["fields"])), dict(read[1])
-        return all(number in there and is_kept(reader, model.resolved(reader, known[number]["type"]), item, there[number]) for number, item in value[1] if number in known)
+        known, there = types_of(reader, t), dict(read[1])
+        return all(number in there and is_kept(reader, known[number], item, there[number]) for number, item in value[1] if number in known)
     if t[0] == "list":
         return len(value[1]) == len(read[1]) and all(is_kept(reader, t[1], *both) for both in zip(value[1], read[1]))
     if t[0] == "map":
@@ -97,8 +101,8 @@ def spelled(value, t, schema):
     if tag in WIDTHS:
         return part
     if tag == 12:
-        fields = dict(model.numbered(model.find(schema, *t[1:], model.STRUCTS)["fields"]))
-        return b"".join(struct.pack(">bh", item[0], number) + spelled(item, model.resolved(schema, fields[number]["type"]), schema) for number, item in part) + b"\0"
+        types = types_of(schema, t)
+        return b"".join(struct.pack(">bh", item[0], number) + spelled(item, types[number], schema) for number, item in part) + b"\0"
     if tag == 13:
         return struct.pack(">bbi", tag_of(t[1]), tag_of(t[2]), len(part)) + b"".join(spelled(key, t[1], schema) + spelled(item, t[2], schema) for key, item in part)
     return struct.pack(">bi", tag_of(t[1]), len(part)) + b"".join(spelled(item, t[1], schema) for item in part)
@@ -167,10 +171,10 @@ def is_lost(reader, t, value, reply):
     return kind != 2 or 0 not in fields or not is_kept(reader, t, value, fields[0])
 
 
-def judged(program, folder, writer, reader, pairs, rng, met):
-    """Sends values of these pairs, and counts what became of them; the answer is whether none was lost."""
+def judged(program, folder, texts, writer, reader, pairs, rng, met):
+    """Sends values of these pairs to a mirror of the reader's texts, and counts what became of them; the answer is whether none was lost."""
     types = [("name",) + other for one, other in pairs]
-    main = written(folder, {"inc": reader["inc"], "main": reader["main"] + [mirrored(types)]})
+    main = written(folder, {"inc": texts["inc"], "main": texts["main"] + [mirrored(types)]})
     sent = []
     for i, (one, other) in enumerate(pairs):
         for _ in range(3):
@@ -223,14 +227,16 @@ def main():
     program = sys.argv[3] if len(sys.argv) > 3 else built_program()
     rng, met, folder = random.Random(seed), collections.Counter(), tempfile.mkdtemp(prefix="values.")
     while met["kept"] + met["too large"] < values:
-        old, new = random_change(rng)
-        if ended(program, "compat", written(folder + "/old", old), written(folder + "/new", new))[0] != 0:
+        texts = random_change(rng)
+        names = [written(folder + place, one) for place, one in zip(("/old", "/new"), texts)]
+        if ended(program, "compat", *names)[0] != 0:
             continue
         met["changes"] += 1
-        for backward in (False, True):
-            writer, reader = (new, old) if backward else (old, new)
-            pairs = [(one, other) for back, one, other in model.pairs_of(old, new) if back == backward]
-            if pairs and not judged(program, folder + "/reading", writer, reader, pairs, rng, met):
+        comparison = Comparison(*(checked(program, name) for name in names))
+        for goes_back in (False, True):
+            pairs = [(it.written, it.read) for it in comparison.pairs() if it.goes_back == goes_back]
+            sides = texts[not goes_back], *comparison.sides(goes_back)
+            if pairs and not judged(program, folder + "/reading", *sides, pairs, rng, met):
                 sys.exit(1)
     print(", ".join("%s %d" % pair for pair in met.most_common()), flush=True)
     limits = at_the_limits(program, folder)

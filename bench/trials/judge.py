@@ -8,12 +8,14 @@ function below. What was read is the script's, since the tape tells sizes alone;
 """
 import bisect
 import heapq
-import re
 import sys
 
 import rehearsal_model as model
+from texts import Fault, entries
 
 MAX_FRAME, READ_BUDGET, MOST_OPEN = 16_384_000, 268_435_456, 1_024
+# The order of a report's lines.
+RANKS = {"tape": 0, "call": 1, "oneway": 1, "conn": 2, "calls": 3}
 NEVER = float("inf")
 
 
@@ -28,59 +30,35 @@ def demand(holds, what, *parts):
 
 # --- the report's lines
 
-MARK = re.compile(r"tape (open|end|readfail|writefail|close) (0|[1-9]\d*)|tape (read|wrote) (0|[1-9]\d*) ([1-9]\d*)")
-CALL = re.compile(r"(call|oneway) (0|[1-9]\d*) (0|[1-9]\d*) (0|[1-9]\d*) (\S+) ")
-CONN = re.compile(r"conn (0|[1-9]\d*) (\S.*) (-|(?:[0-9a-f]{2})+)")
-TEXT = re.compile(r'"((?:[^"\\]|\\.)*)"')
-ESCAPE = re.compile(r"\\(x[0-9a-f]{2}|.)")
-NUMBER = re.compile(r"(-?\d+)i")
-FIELD = re.compile(r"(\d+)=")
+def plain(value):
+    """A value as the model has it: a number, a text or a struct of such."""
+    if value.tag == "struct":
+        return {number: plain(item) for number, item in value.held}
+    demand(value.tag in ("i32", "bytes"), "no value of the calculator: %s", value)
+    return value.held
 
 
-def value_at(text, at):
-    """A number, a text or a struct of such, and the place behind it."""
-    found = NUMBER.match(text, at)
-    if found:
-        return int(found[1]), found.end()
-    found = TEXT.match(text, at)
-    if found:
-        text = ESCAPE.sub(lambda sign: sign[1] if len(sign[1]) == 1 else chr(int(sign[1][1:], 16)), found[1])
-        return text.encode("latin-1"), found.end()
-    demand(text.startswith("{", at), "no value at %d of %s", at, text)
-    fields, at = {}, at + 1
-    while not text.startswith("}", at):
-        at += text.startswith(",", at)
-        found = FIELD.match(text, at)
-        demand(found, "no field at %d of %s", at, text)
-        fields[int(found[1])], at = value_at(text, found.end())
-    return fields, at + 1
-
-
-def answer_in(text):
+def plain_answer(answer):
     """An answer, as the model has it."""
-    if text in ("empty", "broken"):
-        return (text,)
-    word, _, left = text.partition(" ")
-    place = None
-    if word == "throws":
-        place, _, left = left.partition(" ")
-    else:
-        demand(word == "ok", "no answer: %s", text)
-    value, end = value_at(left, 0)
-    demand(end == len(left), "more behind an answer: %s", text)
-    return ("ok", value) if place is None else ("throws", int(place), value)
+    parts = [part for part in (answer.id, answer.value and plain(answer.value)) if part is not None]
+    return (answer.kind, *parts)
+
+
+def read_line(line):
+    try:
+        return entries.read_line(line)
+    except Fault as fault:
+        raise Broken("no line of a report: %s, at %d: %s" % (fault, fault.at, line)) from None
 
 
 class Entry:
     """A call of the journal."""
 
     def __init__(self, line):
-        found = CALL.match(line)
-        demand(found, "no line of a report: %s", line)
-        self.silent, self.c, self.i, self.slot = found[1] == "oneway", int(found[2]), int(found[3]), int(found[4])
-        self.method = found[5].encode()
-        self.args, at = value_at(line, found.end())
-        self.answer, self.line = answer_in(line[at + 1:]), line
+        read = read_line(line)
+        demand(isinstance(read, entries.Entry), "no line of a call: %s", line)
+        self.silent, self.c, self.i, self.slot = read.oneway, read.connection, read.frame, read.slot
+        self.method, self.args, self.answer, self.line = read.method.encode(), plain(read.args), plain_answer(read.answer), line
         own = (self.c, self.i, self.method, self.args, self.silent, self.answer)
         demand(self.slot == 0 and model.entry_line(own) == line, "no entry's line: %s", line)
 
@@ -90,31 +68,27 @@ class Report:
 
     def __init__(self, text):
         demand(text.endswith("\n"), "the last line has no end")
-        lines = text[:-1].split("\n")
         self.tape, self.journal, self.causes, self.outs = [], [], [], []
-        at = self.read_tape(lines, 0)
-        while at < len(lines) and CALL.match(lines[at]):
-            self.journal.append(Entry(lines[at]))
-            at += 1
-        at = self.read_ends(lines, at)
-        demand(lines[at:] == ["calls %d" % len(self.journal)], "the end isn't `calls %d`", len(self.journal))
+        lines = text[:-1].split("\n")
+        kinds = [line.split(" ")[0] for line in lines]
+        ranks = [RANKS.get(kind, len(RANKS)) for kind in kinds]
+        demand(ranks == sorted(ranks) and kinds[-1:] == ["calls"], "its lines have another order")
+        for line in lines[:-1]:
+            self.take(line)
+        demand(lines[-1] == "calls %d" % len(self.journal), "the end isn't `calls %d`", len(self.journal))
 
-    def read_tape(self, lines, at):
-        while at < len(lines) and lines[at].startswith("tape "):
-            found = MARK.fullmatch(lines[at])
-            demand(found, "no mark: %s", lines[at])
-            self.tape.append((found[1], int(found[2]), 0) if found[1] else (found[3], int(found[4]), int(found[5])))
-            at += 1
-        return at
-
-    def read_ends(self, lines, at):
-        while at < len(lines) and lines[at].startswith("conn "):
-            found = CONN.fullmatch(lines[at])
-            demand(found and int(found[1]) == len(self.causes), "no end of connection %d: %s", len(self.causes), lines[at])
-            self.causes.append(found[2])
-            self.outs.append(b"" if found[3] == "-" else bytes.fromhex(found[3]))
-            at += 1
-        return at
+    def take(self, line):
+        if line.startswith(("call ", "oneway ")):
+            self.journal.append(Entry(line))
+            return
+        read = read_line(line)
+        if isinstance(read, entries.Mark):
+            self.tape.append((read.event, read.connection, read.count or 0))
+            return
+        is_next = isinstance(read, entries.Ended) and read.connection == len(self.causes) and read.written is not None
+        demand(is_next, "no end of connection %d: %s", len(self.causes), line)
+        self.causes.append(read.cause)
+        self.outs.append(read.written)
 
 
 # --- a connection

@@ -3,8 +3,8 @@
 
 Each file below the folders is mended into a folder of its own, with all folders that hold IDL files as roots, and the
 copy has to be accepted by `check`. Prints each file that isn't, with the line that says why, and the counts; ends with
-status 1 where a tool ends otherwise than it may, or fewer than N files are accepted. Those that outside_idl.py speaks of
-come by `apt-get source thrift` and `apt-get download`, each unpacked by `dpkg-deb -x` (docs/PROFILE.md names them)."""
+status 1 where a tool ends otherwise than it may, or fewer than N files are accepted. Those that outside_idl.py speaks
+of come by `apt-get source thrift` and `apt-get download`, unpacked by `dpkg-deb -x` (docs/PROFILE.md names them)."""
 import argparse
 import collections
 import os
@@ -13,9 +13,7 @@ import sys
 import tempfile
 
 from built import TOP
-
-sys.path.insert(0, os.path.join(TOP, "tools"))
-from texts.program import program_path  # noqa: E402
+from texts.program import program_path
 
 
 def idl_files(folders):

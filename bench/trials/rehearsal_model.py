@@ -5,101 +5,32 @@ It knows the binary protocol and the tutorial's calculator, and runs a script as
 Calculator=calculator` does. `rehearsal_model.py WORKERS [MAX_FRAME [READ_BUDGET]] < SCRIPT` prints the report, or the errors' line of a text that is
 none. It comes to what the rows of rehearsals in rows/ say, and bench/trials/rehearsal_mixes.py runs it beside the program.
 """
+import io
 import sys
 
-MOST_BYTES, MOST_OPENINGS, MOST_READ = 67_108_864, 1_024, 65_536
+import built  # noqa: F401 (texts is found behind it)
+from texts import scripts
+from texts.scripts import ScriptFault as Fault
 
-
-class Fault(Exception):
-    """A script's first fault."""
-
-    def __init__(self, line, kind):
-        super().__init__(line, kind)
-        self.line, self.kind = line, kind
+MOST_READ = 65_536
 
 
 # --- scripts
 
-HEX = set(b"0123456789abcdefABCDEF")
-WORDS = {b"open": "", b"data": "ch", b"end": "c", b"readfail": "c", b"write": "cn", b"block": "c", b"writefail": "c", b"rest": "", b"loop": "c",
-         b"work": "w", b"collect": ""}
-SCHEDULE = (b"loop", b"work", b"collect")
-
-
-def number(word):
-    """A decimal without leading zeros that fits 32 bits, or None."""
-    if not word.isdigit() or not word.isascii() or (word[:1] == b"0" and len(word) > 1) or len(word) > 10:
-        return None
-    value = int(word)
-    return value if value < 2 ** 32 else None
-
-
-def form(line):
-    """The line's word and its parts, or None where it has no form."""
-    word, *parts = line.split(b" ")
-    shape = WORDS.get(word)
-    if shape is None or len(parts) != len(shape):
-        return None
-    found = []
-    for kind, part in zip(shape, parts):
-        if kind == "h":
-            if not part or len(part) % 2 or not set(part) <= HEX:
-                return None
-            found.append(bytes.fromhex(part.decode()))
-            continue
-        value = number(part)
-        if value is None or (kind == "n" and value == 0):
-            return None
-        found.append(value)
-    return word, found
-
-
-def line_fault(line, workers, schedule, ended):
-    """What is wrong with a line behind the openings and ends so far, the first in the order of the kinds."""
-    found = form(line)
-    if found is None:
-        return "BadLine"
-    word, parts = found
-    shape = WORDS[word]
-    if word in SCHEDULE and not schedule:
-        return "Schedule"
-    if "c" in shape and parts[0] >= len(ended):
-        return "NoConnection"
-    if "w" in shape and parts[0] >= max(1, workers):
-        return "NoWorker"
-    if word in (b"data", b"end", b"readfail") and ended[parts[0]]:
-        return "AfterEnd"
-    if word == b"open" and len(ended) == MOST_OPENINGS:
-        return "TooMany"
-    return None
-
-
 def read_script(text, workers, schedule=True):
     """The lines in order, rules and ignored lines left out, and each connection's rules; or a Fault."""
-    if len(text) > MOST_BYTES:
-        raise Fault(0, "TooLong")
-    rows = text.split(b"\n")
-    if rows[-1] == b"":
-        rows.pop()
-    lines, rules, ended = [], [], []
-    for place, row in enumerate(rows, 1):
-        if row == b"" or row.startswith(b"#"):
+    lines, rules, piece = [], [], b""
+    for line in scripts.read_script(io.BytesIO(text), workers, schedule):
+        if line.word in ("write", "block", "writefail"):
+            rules[line.numbers[0]].append((line.word, *line.numbers[1:]))
             continue
-        kind = line_fault(row, workers, schedule, ended)
-        if kind:
-            raise Fault(place, kind)
-        word, parts = form(row)
-        if word in (b"write", b"block", b"writefail"):
-            rules[parts[0]].append((word.decode(), *parts[1:]))
-            continue
-        if word == b"open":
+        if line.word == "open":
             rules.append([])
-            ended.append(False)
-        if word in (b"end", b"readfail"):
-            ended[parts[0]] = True
-        lines.append((word.decode(), *parts))
-    if not all(ended):
-        raise Fault(len(rows) + 1, "NoEnd")
+        if line.data is not None:
+            piece += line.data
+        if line.whole:
+            lines.append((line.word, *line.numbers, *([piece] if line.data is not None else [])))
+            piece = b""
     return lines, rules
 
 

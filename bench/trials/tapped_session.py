@@ -1,5 +1,5 @@
 #!/usr/bin/python3
-"""Taps sessions of Apache's Python client at Apache's own server, and plays them there anew: tapped_session.py [THRIFTD]
+"""Taps sessions of Apache's Python client at Apache's own server, and plays them anew: tapped_session.py [THRIFTD]
 
 For both protocols, plain and multiplexed: clients of Apache's library (python3-thrift), with code that its compiler
 (thrift-compiler) writes from the tutorial's IDL, call Apache's threaded server in Python through `tools/tap`, several

@@ -1,5 +1,4 @@
 """Scripts as a stream of lines: docs/PROFILE.md, 'Scripts'."""
-import binascii
 import re
 from typing import NamedTuple, Optional
 
@@ -52,12 +51,13 @@ def number_in(word):
 
 
 def bytes_of(digits):
-    """The bytes of pairs of hexadecimal digits; None where these are none. (A regular expression would take a hundred
-    times as long for a long piece, and as much memory.)"""
+    """The bytes of pairs of hexadecimal digits, one at least, or None."""
     try:
-        return binascii.unhexlify(digits) or None
-    except binascii.Error:
+        data = bytes.fromhex(digits.decode("ascii"))
+    except ValueError:
         return None
+    # (blanks between pairs are passed over there)
+    return data if digits and 2 * len(data) == len(digits) else None
 
 
 def form_of(text):

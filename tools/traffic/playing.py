@@ -74,7 +74,7 @@ class Connection:
 
 
 class Player:
-    """Plays a script at a port. What comes goes to a sink: by `came` each payload, by `rest` what is behind the last."""
+    """Plays a script at a port. What comes goes to a sink: each payload by `came`, the bytes behind by `rest`."""
 
     def __init__(self, port, patience, sink):
         self.port, self.patience, self.sink = port, patience, sink
