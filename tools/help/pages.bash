@@ -41,9 +41,17 @@ facts_of() {
   done
 }
 
+# set_places: sets me to how the script is called in examples, and shelf to where the documents are, in a clone or in the
+# package
+set_places() {
+  me=./thriftd shelf=
+  [ ! -e "$top/program" ] || me=thriftd shelf=${top%/lib/thriftd}/share/doc/thriftd/
+}
+
 # print_page COMMAND: prints the page of a command of the program
 print_page() {
-  local does notes examples ended statuses more name what
+  local does notes examples ended statuses more name what me shelf
+  set_places
   facts_of "$1"
   read_use "$1"
   printf 'thriftd %s\n\n%s\n' "${uses[$1]}" "$does"
@@ -54,13 +62,13 @@ print_page() {
     print_line "${shown[$name]-$name}" "$what"
   done
   printf '\nexample:\n'
-  printf '  %s\n' "${examples[@]}"
+  printf '  %s\n' "${examples[@]/#.\/thriftd/$me}"
   printf '\nstatuses:\n'
   print_line 0 "$ended"
   for name in "${statuses[@]}" 126 127; do
     print_line "$name" "${says[$name]}"
   done
-  printf '\n%s says more.\n' "$more"
+  printf '\n%s says more.\n' "$shelf$more"
 }
 
 # tool_says FILE: sets what to the first sentence of the text that the tool begins with
@@ -73,6 +81,8 @@ tool_says() {
       '"""'*) line=${line#'"""'} ;;
       '# '*) line=${line#'# '} ;;
     esac
+    line=${line%'"""'}
+    line=${line%%: docs/*}
     line=${line%%. *}
     what=${line%[.:]}
     return
@@ -81,7 +91,8 @@ tool_says() {
 
 # print_overview FOLDER: prints what commands there are, and which tools in the folder
 print_overview() {
-  local name does notes examples ended statuses more tools what
+  local name does notes examples ended statuses more tools what me shelf
+  set_places
   for name in "${commands[@]}"; do
     facts_of "$name"
     printf 'thriftd %s\n    %s\n' "${uses[$name]}" "$does"
@@ -95,5 +106,5 @@ print_overview() {
       print_line "$name" "$what"
     done
   fi
-  printf '\nREADME.md begins with examples; docs/PROFILE.md has all words, formats and limits.\n'
+  printf '\n%sREADME.md begins with examples; docs/PROFILE.md beside it has all words, formats and limits.\n' "$shelf"
 }
