@@ -11,10 +11,12 @@ import json
 import os
 import re
 import shutil
-import struct
 import subprocess
 import sys
 import tempfile
+
+import built  # noqa: F401 (texts is found behind it)
+from texts.schemas import STRUCTS, read_schema
 
 WHOLE = "a double constant is a whole number within plus or minus 2^53"
 FORM = "a constant has the form of its type: a set is a list in brackets"
@@ -37,232 +39,102 @@ LAXER = {
 }
 
 
-def split_outside(text, mark):
-    """Cuts a text at each mark outside of literals."""
-    parts, begin, at, quoted = [], 0, 0, False
-    while at < len(text):
-        if quoted and text[at] == "\\":
-            at += 2
-            continue
-        if text[at] == '"':
-            quoted = not quoted
-        if not quoted and text.startswith(mark, at):
-            parts.append(text[begin:at])
-            at += len(mark)
-            begin = at
-            continue
-        at += 1
-    parts.append(text[begin:])
-    return parts
-
-
-class Reader:
-    """Reads one value text."""
-
-    def __init__(self, text):
-        self.text, self.at = text, 0
-
-    def take(self, pattern):
-        found = re.compile(pattern).match(self.text, self.at)
-        if not found:
-            raise ValueError("value text at %d: %r" % (self.at, self.text))
-        self.at = found.end()
-        return found
-
-    def items(self, end, read):
-        made = []
-        while self.text[self.at] != end:
-            made.append(read())
-            if self.text[self.at] == ",":
-                self.at += 1
-        self.at += 1
-        return made
-
-    def pair(self):
-        key = self.value()
-        self.take("=")
-        return key, self.value()
-
-    def value(self):
-        rest = self.text[self.at:]
-        if rest[0] == '"':
-            body = self.take(r'"((?:[^"\\]|\\.)*)"').group(1)
-            return re.sub(r'\\(x[0-9a-f]{2}|.)', lambda m: chr(int(m[1][1:], 16)) if m[1][0] == "x" else m[1], body)
-        if rest.startswith(("list<", "set<")):
-            self.take(r"(list|set)<\w+>\[")
-            return self.items("]", self.value)
-        if rest.startswith("map<"):
-            self.take(r"map<\w+,\w+>\{")
-            return ("map", self.items("}", self.pair))
-        if rest[0] == "{":
-            self.take(r"\{")
-            return ("struct", self.items("}", lambda: (int(self.take(r"(\d+)=").group(1)), self.value())))
-        if rest.startswith(("true", "false")):
-            return self.take("true|false").group(0) == "true"
-        if rest[0] == "d":
-            return struct.unpack(">d", bytes.fromhex(self.take("d([0-9a-f]{16})").group(1)))[0]
-        return int(self.take(r"(-?\d+)[bsil]").group(1))
-
-
-def field_of(text):
-    """id, need, type, name and default of a field's text."""
-    head, *value = split_outside(text, " = ")
-    number, need, kind, name = head.split(" ")
-    return int(number), need, kind, name, (Reader(value[0]).value(),) if value else None
-
-
-def files_of(text):
-    """The definitions of each file of a schema text, by base name."""
-    files, made, last = {}, None, None
-    for line in text.split("\n"):
-        word, _, rest = line.partition(" ")
-        if word == "file":
-            made = files[rest] = {"typedefs": [], "constants": [], "enums": [], "structs": [], "services": []}
-        elif word == "typedef":
-            made["typedefs"].append(rest.split(" ")[0])
-        elif word == "const":
-            name, kind, value = rest.split(" ", 2)
-            made["constants"].append((name, Reader(value).value(), kind))
-        elif word == "enum":
-            name, *values = rest.split(" ")
-            made["enums"].append((name, [(v.split("=")[0], int(v.split("=")[1])) for v in values]))
-        elif word in ("struct", "union", "exception"):
-            last = []
-            made["structs"].append((rest, word, last))
-        elif word == "service":
-            last = None
-            functions = []
-            made["services"].append((rest.split(" ")[0], functions))
-        elif line.startswith("  ") and last is not None:
-            last.append(field_of(line[2:]))
-        elif line.startswith("  "):
-            functions.append(function_of(line[2:]))
-    return files
-
-
-def function_of(text):
-    """name, whether it is oneway, arguments and exceptions of a function's text."""
-    oneway = text.startswith("oneway ")
-    head, _, rest = text.partition("(")
-    lists = split_outside(rest, ")")
-    thrown = lists[1][len(" throws ("):] if len(lists) > 2 else ""
-    return head.split(" ")[-1], oneway, fields_of(lists[0]), fields_of(thrown)
-
-
-def fields_of(text):
-    return [field_of(part) for part in split_outside(text, ", ")] if text else []
-
-
 def number(value):
     return int(value) if isinstance(value, bool) else value
 
 
-def kind_parts(kind):
-    """The word of a container's text and the texts of its parts."""
-    word, _, inside = kind.partition("<")
-    parts, deep, last = [], 0, ""
-    for sign in inside[:-1]:
-        deep += {"<": 1, ">": -1}.get(sign, 0)
-        if sign == "," and deep == 0:
-            parts.append(last)
-            last = ""
-        else:
-            last += sign
-    return word, parts + [last]
-
-
-def key_text(value):
+def key_text(key):
     """A key as Apache's JSON has it."""
-    return value if isinstance(value, str) else str(number(value))
+    return key.held.decode("utf-8", "replace") if key.tag == "bytes" else str(number(key.number if key.tag == "double" else key.held))
 
 
-def is_value(kind, ours, theirs, structs):
+def is_value(schema, type_, ours, theirs):
     """Whether a value of the schema text is one of the JSON, against a type. Booleans are numbers there, sets have any order, of a struct only the
     fields that are given have an entry, by their names, and equal keys have become one."""
-    word, parts = kind_parts(kind)
-    if word == "map":
-        entries = {key_text(key): value for key, value in ours[1]}
-        return entries.keys() == theirs.keys() and all(is_value(parts[1], entries[key], theirs[key], structs) for key in entries)
-    if word == "list":
-        return len(ours) == len(theirs) and all(is_value(parts[0], a, b, structs) for a, b in zip(ours, theirs))
-    if word == "set":
-        return all(any(is_value(parts[0], a, b, structs) for b in theirs) for a in ours) and all(
-            any(is_value(parts[0], a, b, structs) for a in ours) for b in theirs
+    if ours.tag == "map":
+        entries = {key_text(key): value for key, value in ours.held}
+        return entries.keys() == theirs.keys() and all(is_value(schema, type_.parts[1], entries[key], theirs[key]) for key in entries)
+    if ours.tag == "list":
+        return len(ours.held) == len(theirs) and all(is_value(schema, type_.parts[0], a, b) for a, b in zip(ours.held, theirs))
+    if ours.tag == "set":
+        return all(any(is_value(schema, type_.parts[0], a, b) for b in theirs) for a in ours.held) and all(
+            any(is_value(schema, type_.parts[0], a, b) for a in ours.held) for b in theirs
         )
-    if kind in structs:
-        return is_struct(structs[kind], dict(ours[1]), theirs, structs)
-    if isinstance(ours, str):
-        return ours.encode("latin-1") == theirs.encode("utf-8")
-    return number(ours) == number(theirs)
+    if ours.tag == "struct":
+        return is_struct(schema, schema.definition(type_).fields, dict(ours.held), theirs)
+    if ours.tag == "bytes":
+        return ours.held == theirs.encode("utf-8")
+    return number(ours.number if ours.tag == "double" else ours.held) == number(theirs)
 
 
-def is_struct(fields, ours, theirs, structs):
+def is_struct(schema, fields, ours, theirs):
     """The same of a struct: what isn't given has the default of its field."""
-    for number_of, _, kind, name, default in fields:
-        if name in theirs:
-            if number_of not in ours or not is_value(kind, ours[number_of], theirs[name], structs):
+    for field in fields:
+        if field.name in theirs:
+            if field.id not in ours or not is_value(schema, field.type, ours[field.id], theirs[field.name]):
                 return False
-        elif (ours.get(number_of) if number_of in ours else None) != (default[0] if default else None):
+        elif ours.get(field.id) != field.default:
             return False
-    return set(theirs) <= {field[3] for field in fields}
+    return set(theirs) <= {field.name for field in fields}
 
 
 NEEDS = {"default": "req_out", "required": "required", "optional": "optional"}
 
 
-def fields_differ(ours, theirs, structs, is_union=False):
+def fields_differ(schema, ours, theirs, is_union=False):
     theirs = sorted(theirs, key=lambda f: f["key"])
-    if [(f[0], f[3]) for f in ours] != [(f["key"], f["name"]) for f in theirs]:
+    if [(field.id, field.name) for field in ours] != [(f["key"], f["name"]) for f in theirs]:
         return "fields %r, %r" % (ours, theirs)
-    for (_, need, kind, name, default), f in zip(ours, theirs):
-        if not is_union and NEEDS[need] != f["required"]:
-            return "need of %s" % name
-        if (default is None) != ("default" not in f):
-            return "default of %s" % name
-        if default and not is_value(kind, default[0], f["default"], structs):
-            return "default of %s: %r, %r" % (name, default[0], f["default"])
+    for field, f in zip(ours, theirs):
+        if not is_union and NEEDS[field.need] != f["required"]:
+            return "need of %s" % field.name
+        if (field.default is None) != ("default" not in f):
+            return "default of %s" % field.name
+        if field.default and not is_value(schema, field.type, field.default, f["default"]):
+            return "default of %s: %r, %r" % (field.name, field.default, f["default"])
     return None
 
 
-def constants_differ(ours, theirs, structs):
-    for name, value, kind in ours:
-        other = next(c for c in theirs if c["name"] == name)
-        if not is_value(kind, value, other["value"], structs):
-            return "constant %s: %r, %r" % (name, value, other["value"])
+def constants_differ(schema, ours, theirs):
+    for constant in ours:
+        other = next(c for c in theirs if c["name"] == constant.name)
+        if not is_value(schema, constant.type, constant.value, other["value"]):
+            return "constant %s: %r, %r" % (constant.name, constant.value, other["value"])
     return None
 
 
-def difference(files, base, theirs):
+# The sorts of definitions that Apache's JSON has in each of its lists.
+SORTS = {"typedefs": ("typedef",), "constants": ("const",), "enums": ("enum",), "structs": STRUCTS, "services": ("service",)}
+
+
+def difference(schema, base, theirs):
     """The first difference of a file's definitions, or None."""
-    def names(items):
-        return sorted(item["name"] for item in items)
-    ours = files[base]
-    structs = {"%s.%s" % (file, name): fields for file, made in files.items() for name, _, fields in made["structs"]}
-    for part in ("typedefs", "constants", "enums", "structs", "services"):
-        a, b = sorted(item if part == "typedefs" else item[0] for item in ours[part]), names(theirs[part])
+    ours = {part: [one for one in schema.files[base] if one.sort in sorts] for part, sorts in SORTS.items()}
+    for part in ours:
+        a, b = sorted(one.name for one in ours[part]), sorted(item["name"] for item in theirs[part])
         if a != b:
             return "names %r, %r" % (a, b)
-    for name, values in ours["enums"]:
-        other = next(e for e in theirs["enums"] if e["name"] == name)
-        if values != [(m["name"], m["value"]) for m in other["members"]]:
-            return "enum %s" % name
-    for name, word, fields in ours["structs"]:
-        other = next(s for s in theirs["structs"] if s["name"] == name)
-        found = fields_differ(fields, other["fields"], structs, word == "union")
+    for enum in ours["enums"]:
+        other = next(e for e in theirs["enums"] if e["name"] == enum.name)
+        if enum.values != [(m["name"], m["value"]) for m in other["members"]]:
+            return "enum %s" % enum.name
+    for struct in ours["structs"]:
+        other = next(s for s in theirs["structs"] if s["name"] == struct.name)
+        found = fields_differ(schema, struct.fields, other["fields"], struct.sort == "union")
         if found:
-            return "%s %s: %s" % (word, name, found)
-    return constants_differ(ours["constants"], theirs["constants"], structs) or services_differ(ours["services"], theirs["services"], structs)
+            return "%s %s: %s" % (struct.sort, struct.name, found)
+    return constants_differ(schema, ours["constants"], theirs["constants"]) or services_differ(schema, ours["services"], theirs["services"])
 
 
-def services_differ(ours, theirs, structs):
-    for name, functions in ours:
-        other = next(s for s in theirs if s["name"] == name)
-        if [f[0] for f in functions] != [f["name"] for f in other["functions"]]:
-            return "functions of %s" % name
-        for (function, oneway, args, thrown), f in zip(functions, other["functions"]):
-            found = fields_differ(args, f["arguments"], structs) or fields_differ(thrown, f["exceptions"], structs)
-            if found or oneway != f["oneway"]:
-                return "%s.%s: %s" % (name, function, found or "oneway")
+def services_differ(schema, ours, theirs):
+    for service in ours:
+        other = next(s for s in theirs if s["name"] == service.name)
+        if [f.name for f in service.functions] != [f["name"] for f in other["functions"]]:
+            return "functions of %s" % service.name
+        for function, f in zip(service.functions, other["functions"]):
+            found = fields_differ(schema, function.args, f["arguments"]) or fields_differ(schema, function.throws, f["exceptions"])
+            if found or function.oneway != f["oneway"]:
+                return "%s.%s: %s" % (service.name, function.name, found or "oneway")
     return None
 
 
@@ -307,7 +179,7 @@ def compare(thriftd, path):
                     told = json.load(file, strict=False)
                 except json.JSONDecodeError:
                     return "accepted by both; Apache's compiler writes no JSON of it", True, None
-            found = difference(files_of(ours.stdout), base, told)
+            found = difference(read_schema(ours.stdout), base, told)
             return found and "DIFFERS " + found, not found, None
     if accepted:
         line = ours.stderr.strip()
