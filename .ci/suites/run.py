@@ -1,6 +1,6 @@
 """Tests the program that ./thriftd runs, in a minute and without the kit.
 
-./test                 runs the suites rows, examples, screen and scripts
+./test                 runs all suites but texts
 ./test NAME ..         runs these suites, or the rows of a file (rows/words.rows)
 ./test --all           runs everything, in an hour or two: proofs, tests and edits by `rt ci`, then all suites by the
                        programs that both compilers built
@@ -17,14 +17,18 @@ from dataclasses import dataclass
 from typing import Callable
 
 import examples
+import package
+import pages
 import rows
 import screen
 import scripts
+import start
 import tool_ask
 import tool_changes
 import tool_json
 import tool_mend
 import tool_page
+import tool_ports
 import tool_texts
 from suite import Outcome, Programs, Test, Unfit, both_built, counted, found_programs, named_program, outcome_of
 
@@ -50,16 +54,20 @@ SUITES = {
     "rows": Suite("%d rows", "each row of rows/ comes to what it says", lambda programs: rows.tests(programs, rows.files_of_rows())),
     "examples": Suite("%d examples", "each example of examples/ comes to what is kept beside it", examples.tests),
     "screen": Suite("README's first screen", "what README.md begins with prints what it says, at a real port", screen.tests),
+    "pages": Suite("%d sections of the pages", "each command of README, RUNNING, TROUBLESHOOTING and COOKBOOK prints what they say", pages.tests),
+    "start": Suite("%d tests of the script thriftd", "it prints help, tells what is wrong with words, runs tools and holds journals", start.tests),
+    "package": Suite("%d tests of the package", "the Debian package of the program in dist/ installs, and does as the first screen says", package.tests, runs_program=False),
     "scripts": Suite("%d tests of the scripts", "./test and .ci/texts fail where they have to", scripts.tests, runs_program=False),
     "tool_texts": Suite("%d tests of tools/texts", "the tools' module reads what the program writes", tool_texts.tests),
     "tool_json": Suite("%d tests of tools/json", "journals, reports and scripts come to the JSON that they say", tool_json.tests),
     "tool_ask": Suite("%d tests of tools/ask", "calls by JSON are answered, or end with their status", tool_ask.tests),
     "tool_mend": Suite("%d tests of tools/mend", "what is mended is accepted, and each change is told", tool_mend.tests),
     "tool_changes": Suite("%d tests of tools/changes", "all differences of two IDLs are told, as `compat` has them", tool_changes.tests),
+    "tool_ports": Suite("%d tests of stop, tap and play", "the tools at ports do as docs/TOOLS.md says", tool_ports.tests),
     "tool_page": Suite("docs/TOOLS.md", "each command of docs/TOOLS.md prints what stands there", tool_page.tests),
     "texts": Suite("%d checks of the tree as text", "the tree is in order as text", lambda: [counted(".ci/texts")], runs_program=False),
 }
-USUAL = ["rows", "examples", "screen", "scripts", "tool_texts", "tool_json", "tool_ask", "tool_mend", "tool_changes", "tool_page"]
+USUAL = [name for name in SUITES if name != "texts"]
 
 
 def stop(status, line):

@@ -1,10 +1,10 @@
 """The suite `screen`: what README.md's first screen says to paste prints what it says.
 
-Taken are the first block that begins with `./thriftd serve` and the five behind it: what the server says, the command
-that calls it, the client in Python, the summary and the journal. Summary and journal are those of a server that ends by
-itself, with other words, as README.md says; as the block stands, it is stopped by Ctrl-C, and has neither. They run in a folder of their own, with the program's
-path in place of `./thriftd`, and at a port that is free. The client's two calls are made by bytes too, so that the rest
-is seen where Apache's library isn't installed. Then each other block that begins so has to listen."""
+Taken are the first block that begins with `./thriftd serve` and the six behind it: what the server says, the command
+that calls it, the client in Python, the one that stops it, and the journal with the command that prints it. They run in
+a folder of their own, with the script's path in place of `./thriftd`, and at a port that is free. The client's two calls are made by
+bytes too, so that the rest is seen where Apache's library isn't installed. Then each other block that begins so has to
+listen."""
 import contextlib
 import functools
 import os
@@ -12,11 +12,11 @@ import random
 import re
 import shlex
 import shutil
-import signal
 import socket
 import subprocess
 import tempfile
 import threading
+from dataclasses import dataclass
 
 from suite import SECONDS, TOP, Found, LeftOut, Test, Unfit
 
@@ -41,15 +41,15 @@ def free_port():
 
 
 @contextlib.contextmanager
-def room():
+def room(examples):
     """A folder with the examples."""
     with tempfile.TemporaryDirectory(prefix="thriftd-screen-") as folder:
-        os.symlink(os.path.join(TOP, "examples"), os.path.join(folder, "examples"))
+        os.symlink(examples, os.path.join(folder, "examples"))
         yield folder
 
 
 def paste(block, program, folder, **streams):
-    """Starts a block as a shell does into which it is pasted."""
+    """Starts a block as a shell does into which it is pasted, with a program or the script in place of ./thriftd."""
     text = block.replace("./thriftd", "exec " + shlex.quote(program)).replace("/tmp/gen", os.path.join(folder, "gen"))
     return subprocess.Popen(["bash", "-c", text], cwd=folder, stdout=subprocess.PIPE, text=True, **streams)
 
@@ -79,20 +79,20 @@ def has_library():
     return bool(shutil.which("thrift")) and os.path.exists(words[0]) and not subprocess.run(words, stderr=subprocess.DEVNULL, check=False).returncode
 
 
-def pasted(block, program, folder):
+def pasted(block, start, folder):
     """What a block prints."""
-    with served(block, program, folder, stderr=subprocess.STDOUT) as run:
+    with served(block, start.script, folder, env=start.settings, stderr=subprocess.STDOUT) as run:
         return run.stdout.read()
 
 
-def called_by_library(block, program, folder, port):
+def called_by_library(block, start, folder, port):
     """What the client of Apache's library prints."""
     if not has_library():
         raise LeftOut(LIBRARY)
-    return pasted(block, program, folder)
+    return pasted(block, start, folder)
 
 
-def called_by_bytes(block, program, folder, port):
+def called_by_bytes(block, start, folder, port):
     """The same, by bytes: both answers are numbers, and stand at the end of their replies."""
     answers = []
     with socket.create_connection(("127.0.0.1", int(port)), timeout=SECONDS) as link, link.makefile("rb") as replies:
@@ -103,48 +103,71 @@ def called_by_bytes(block, program, folder, port):
     return " ".join(answers) + "\n"
 
 
-def session(says, blocks, client, program, stopped=False):
-    """The server that is called by the command and by a client, up to its end, or until it is stopped by Ctrl-C."""
+@dataclass
+class Start:
+    """What is started: the script, the examples beside it, and the environment."""
+
+    script: str
+    examples: str
+    settings: dict
+
+
+def start_of(program):
+    """The script of the tree, with a program."""
+    kept = {name: value for name, value in os.environ.items() if not name.startswith("THRIFTD")}
+    return Start(os.path.join(TOP, "thriftd"), os.path.join(TOP, "examples"), {**kept, "THRIFTD": program, "THRIFTD_NO_BUILD": "1"})
+
+
+def session(screen, client, start):
+    """The server that is called by the command and by a client, and is stopped."""
     port = free_port()
-    serving, listening, command, calling, summary, journal = (it.replace(PORT, port) for it in blocks)
-    with room() as folder, served(serving, program, folder) as server:
+    serving, listening, command, calling, stopping, printing, journal = (it.replace(PORT, port) for it in screen.blocks)
+    with room(start.examples) as folder, served(serving, start.script, folder, env=start.settings) as server:
         compare("the server's first line", server.stdout.readline(), listening)
-        compare("what the command prints", pasted(command, program, folder), says[0] + "\n")
-        compare("what the client prints", client(calling, program, folder, port), says[1] + "\n")
-        if stopped:
-            compare("the server's status before Ctrl-C", server.poll(), None)
-            server.send_signal(signal.SIGINT)
-        compare("the summary", server.stdout.read(), summary)
-        compare("the server's status", server.wait(), -signal.SIGINT if stopped else 0)
-        name = re.search(r"--journal (\S+)", serving)[1]
-        with open(os.path.join(folder, name), encoding="utf-8") as lines:
-            compare(name, lines.read(), journal)
+        compare("what the command prints", pasted(command, start, folder), screen.says[0] + "\n")
+        compare("what the client prints", client(calling, start, folder, port), screen.says[1] + "\n")
+        compare("what stops it prints", pasted(stopping, start, folder), screen.says[2] + "\n")
+        lines = server.stdout.read().splitlines()
+        compare("the summary", (*lines[:1], *lines[-2:]), screen.summary)
+        compare("the server's status", server.wait(), 0)
+        compare("the journal", pasted(printing, start, folder), journal)
 
 
-def listens(block, program):
+def listens(block, start):
     port = free_port()
-    with room() as folder, served(block.replace(PORT, port), program, folder) as server:
+    with room(start.examples) as folder, served(block.replace(PORT, port), start.script, folder, env=start.settings) as server:
         compare("the first line of %s" % block.strip(), server.stdout.readline(), "listening 127.0.0.1:%s\n" % port)
+
+
+@dataclass
+class Screen:
+    """The first screen: its blocks, what the page says that they print, three lines of the summary, and the other
+    blocks that serve."""
+
+    blocks: list
+    says: list
+    summary: tuple
+    others: list
+
+
+def first_screen():
+    with open(os.path.join(TOP, "README.md"), encoding="utf-8") as readme:
+        text = readme.read()
+    blocks = re.findall(r"^```(?:sh)?\n(.*?)^```$", text, re.MULTILINE | re.DOTALL)
+    serving = [at for at, block in enumerate(blocks) if block.startswith(COMMAND)]
+    says = re.findall(r"It prints `([^`]*)`", text)
+    summary = re.search(r"`(conn 0 [^`]*)` to `(conn [^`]*)`, and `(calls [^`]*)`", text)
+    if not serving or len(blocks) < serving[0] + 7 or len(says) < 3 or not summary:
+        raise Unfit("README.md has no block that begins with %s, with the six behind it, three answers and a summary" % COMMAND)
+    return Screen(blocks[serving[0] : serving[0] + 7], says, summary.groups(), [blocks[at] for at in serving[1:]])
 
 
 def tests(programs):
     """The tests of each program: the session by bytes and by Apache's library, and each other server."""
-    with open(os.path.join(TOP, "README.md"), encoding="utf-8") as readme:
-        text = readme.read()
-    blocks = re.findall(r"^```\n(.*?)^```$", text, re.MULTILINE | re.DOTALL)
-    serving = [at for at, block in enumerate(blocks) if block.startswith(COMMAND)]
-    says = re.findall(r"It prints `([^`]*)`", text)
-    if not serving or len(blocks) < serving[0] + 6 or len(says) < 2:
-        raise Unfit("README.md has no block that begins with %s, with the five behind it and two answers" % COMMAND)
-    few = re.search(r"Started with `([^`]*)` in place of `([^`]*)`", text)
-    if not few:
-        raise Unfit("README.md doesn't say with what the server ends by itself")
-    first = blocks[serving[0] : serving[0] + 6]
-    ending = [first[0].replace(few[2], few[1]), *first[1:]]
+    screen = first_screen()
     for program in programs:
-        name = os.path.basename(program)
-        yield Test("stopped (%s)" % name, functools.partial(session, says, [*first[:4], "", ""], called_by_bytes, program, stopped=True))
+        name, start = os.path.basename(program), start_of(program)
         for client in (called_by_bytes, called_by_library):
-            yield Test("%s (%s)" % (client.__name__, name), functools.partial(session, says, ending, client, program))
-        for at in serving[1:]:
-            yield Test("%s (%s)" % (blocks[at].strip(), name), functools.partial(listens, blocks[at], program))
+            yield Test("%s (%s)" % (client.__name__, name), functools.partial(session, screen, client, start))
+        for block in screen.others:
+            yield Test("%s (%s)" % (block.strip(), name), functools.partial(listens, block, start))
