@@ -140,10 +140,11 @@ def large_script(program):
         for _ in range(60):
             run.stdin.write(b"00" * (1 << 19))
         run.stdin.write(b"\nend 0\n")
+        run.stdin.flush()
+        with open("/proc/%d/status" % run.pid, encoding="ascii") as told:
+            most = next(int(line.split()[1]) for line in told if line.startswith("VmHWM"))
         run.stdin.close()
-        _, status, used = os.wait4(run.pid, 0)
-        run.returncode = status
-        demand(status == 0 and used.ru_maxrss < 100_000, "status %d, %d KB", status, used.ru_maxrss)
+        demand(run.wait(SECONDS) == 0 and most < 100_000, "status %d, %d KB", run.returncode, most)
 
 
 def tests(programs):

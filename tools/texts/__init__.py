@@ -4,6 +4,7 @@ values    values and their text: `{1=1i,2="a"}`
 schemas   what `check` prints of an IDL
 entries   the lines of journals, reports and summaries
 scripts   the lines of scripts, as a stream
+compat    the rules of `compat` over two schemas, which tell all breaks
 wire      payloads: message heads and structs in both protocols, and frames
 named     values as JSON, with the names of a schema, and back
 idl       the tokens of an IDL

@@ -3,7 +3,9 @@ import argparse
 import os
 import sys
 
-USAGE, WRITE_FAULT, INTERRUPTED, BROKEN_PIPE = 1, 7, 130, 141
+USAGE, WRITE_FAULT, NO_MEMORY, INTERRUPTED, BROKEN_PIPE = 1, 7, 10, 130, 141
+# (the types of an IDL have up to 1,000 levels, and each takes some calls)
+MOST_CALLS = 5_000
 
 
 class Stop(Exception):
@@ -47,6 +49,7 @@ def emit(text=""):
 def run_tool(name, main):
     """Runs a tool's main function on its words, and ends with the status that it returns."""
     sys.stdout.reconfigure(encoding="utf-8")
+    sys.setrecursionlimit(MOST_CALLS)
     try:
         try:
             status = main(sys.argv[1:]) or 0
@@ -56,6 +59,9 @@ def run_tool(name, main):
     except Stop as stop:
         print(printable("thriftd %s: %s" % (name, stop.line)), file=sys.stderr)
         status = stop.status
+    except (RecursionError, MemoryError):
+        print("thriftd %s: no memory: a type or a value has too many levels or parts" % name, file=sys.stderr)
+        status = NO_MEMORY
     except KeyboardInterrupt:
         status = INTERRUPTED
     except BrokenPipeError:
