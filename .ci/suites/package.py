@@ -76,7 +76,15 @@ def install(package, root):
         pass
     if os.getuid() == 0 and shutil.which("dpkg"):
         words = ["dpkg", "--root=" + root, "--log=/dev/null", "--force-depends", "--install", package]
-        done = subprocess.run(words, env=settings(), stdout=subprocess.PIPE, stderr=subprocess.STDOUT, text=True, timeout=SECONDS, check=False)
+        done = subprocess.run(
+            words,
+            env=settings(),
+            stdout=subprocess.PIPE,
+            stderr=subprocess.STDOUT,
+            text=True,
+            timeout=SECONDS,
+            check=False,
+        )
         want("dpkg --install: %s" % done.stdout[-400:], done.returncode, 0)
     else:
         ran(["dpkg-deb", "--extract", package, root])
@@ -124,7 +132,9 @@ def help_and_tools(folder):
     want("commands and tools", (bool(commands), bool(tools)), (True, True))
     for name in tools:
         ran([script, name, "--help"], env=settings())
-    shown = ran([script, "json", os.path.join(root, SHARED, "examples/ping.report"), "--idl", "@tutorial"], env=settings())
+    shown = ran(
+        [script, "json", os.path.join(root, SHARED, "examples/ping.report"), "--idl", "@tutorial"], env=settings()
+    )
     want("a line of json", '"ping"' in shown, True)
     documents = {re.search(r"(\S+) says more", ran([script, "help", name], env=settings()))[1] for name in commands}
     want("documents that there aren't", [it for it in documents if not os.path.isfile(it)], [])
@@ -132,13 +142,21 @@ def help_and_tools(folder):
         page = held.read().replace("\\-", "-").replace("\\(aq", "'").replace("\\e", "\\")
     for name in commands:
         for line in ran([script, "help", name], env=settings()).split("\n"):
-            for part in (line[:20].strip(), line[20:].strip()) if line.startswith("  ") and not line.startswith("  thriftd ") else ():
+            for part in (
+                (line[:20].strip(), line[20:].strip())
+                if line.startswith("  ") and not line.startswith("  thriftd ")
+                else ()
+            ):
                 if part not in page:
                     yield "the page for man hasn't %r of %s" % (part, name)
     yield from ("the page for man hasn't the tool %s" % it for it in tools if ".B thriftd %s\n" % it not in page)
     if shutil.which("man") and shutil.which("groff"):
         plain = {**settings(), "LC_ALL": "C.UTF-8", "MANWIDTH": "100"}
-        ran(["man", "--warnings", "-l", os.path.join(root, "usr/share/man/man1/thriftd.1.gz")], env=plain, stdin=subprocess.DEVNULL)
+        ran(
+            ["man", "--warnings", "-l", os.path.join(root, "usr/share/man/man1/thriftd.1.gz")],
+            env=plain,
+            stdin=subprocess.DEVNULL,
+        )
 
 
 COMPLETED = {
@@ -161,7 +179,11 @@ def completions(folder):
     with open(os.path.join(folder, "a.thrift"), "w", encoding="utf-8"):
         pass
     for line, wanted in COMPLETED.items():
-        words = ['. "$0"; COMP_WORDS=("$@"); COMP_CWORD=$(($# - 1)); _thriftd; printf "%s\\n" "${COMPREPLY[@]}"', path, *line.split(" ")]
+        words = [
+            '. "$0"; COMP_WORDS=("$@"); COMP_CWORD=$(($# - 1)); _thriftd; printf "%s\\n" "${COMPREPLY[@]}"',
+            path,
+            *line.split(" "),
+        ]
         want(line, set(ran(["bash", "-c", *words], cwd=folder).split()), wanted)
 
 
@@ -174,5 +196,12 @@ def tests():
     """A test of each case."""
     cases = [functools.partial(first_screen, client) for client in (screen.called_by_bytes, screen.called_by_library)]
     cases += [contents, same_bytes, help_and_tools, completions]
-    names = ["first screen, called by bytes", "first screen, called by library", "contents", "same bytes", "help and tools", "completions"]
+    names = [
+        "first screen, called by bytes",
+        "first screen, called by library",
+        "contents",
+        "same bytes",
+        "help and tools",
+        "completions",
+    ]
     return [Test(name, functools.partial(within, case)) for name, case in zip(names, cases)]

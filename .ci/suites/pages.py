@@ -9,8 +9,8 @@ of a clone. Between it and the next such block the page may say
 - its status, in that paragraph as `status N`: the first that is named, and 0 where none is.
 
 A block that begins with `./thriftd serve` or `./thriftd tap` is a terminal of its own: it goes on beside those that
-follow, once it listens, and what it prints until then is compared. Every port (90NN) stands for a free one, and /tmp for
-a folder of the section's own. README.md's first screen is the suite `screen`'s, and no page runs `./test`."""
+follow, once it listens, and what it prints until then is compared. Every port (90NN) stands for a free one, and /tmp
+for a folder of the section's own. README.md's first screen is the suite `screen`'s, and no page runs `./test`."""
 import contextlib
 import functools
 import os
@@ -79,8 +79,19 @@ def steps(page, text, start, end):
 
 NEEDS = [
     (r"thrift -gen py|python3 - ", has_library, LIBRARY),
-    (r"thrift -gen cpp|g\+\+ ", lambda: bool(shutil.which("g++") and os.path.exists("/usr/include/thrift/TProcessor.h") and shutil.which("thrift")), "Apache's client in C++ (Debian: libthrift-dev, thrift-compiler)"),
-    (r"thrift -gen rb|ruby ", lambda: bool(shutil.which("thrift") and shutil.which("ruby")) and not subprocess.run(["ruby", "-e", "require 'thrift'"], stderr=subprocess.DEVNULL, check=False).returncode, "Apache's client in Ruby (Debian: ruby-thrift, thrift-compiler)"),
+    (
+        r"thrift -gen cpp|g\+\+ ",
+        lambda: bool(
+            shutil.which("g++") and os.path.exists("/usr/include/thrift/TProcessor.h") and shutil.which("thrift")
+        ),
+        "Apache's client in C++ (Debian: libthrift-dev, thrift-compiler)",
+    ),
+    (
+        r"thrift -gen rb|ruby ",
+        lambda: bool(shutil.which("thrift") and shutil.which("ruby"))
+        and not subprocess.run(["ruby", "-e", "require 'thrift'"], stderr=subprocess.DEVNULL, check=False).returncode,
+        "Apache's client in Ruby (Debian: ruby-thrift, thrift-compiler)",
+    ),
     (r"\bgit ", lambda: bool(shutil.which("git")), "git"),
 ]
 
@@ -102,7 +113,9 @@ class Place:
         for name in ("thriftd", "examples", "tools", "docs"):
             os.symlink(os.path.join(TOP, name), os.path.join(self.folder, name))
         kept = {name: value for name, value in os.environ.items() if not name.startswith(("GIT_", "THRIFTD"))}
-        author = {"GIT_%s_%s" % (who, what): "me@example.org" for who in ("AUTHOR", "COMMITTER") for what in ("NAME", "EMAIL")}
+        author = {
+            "GIT_%s_%s" % (who, what): "me@example.org" for who in ("AUTHOR", "COMMITTER") for what in ("NAME", "EMAIL")
+        }
         self.settings = {**kept, **author, "THRIFTD": program, "THRIFTD_NO_BUILD": "1", "GIT_CONFIG_GLOBAL": os.devnull}
 
     def meant(self, text):
@@ -113,7 +126,14 @@ class Place:
 
     def shell(self, text, errors):
         return subprocess.Popen(
-            ["bash", "-c", self.meant(text)], cwd=self.folder, env=self.settings, stdin=subprocess.DEVNULL, stdout=subprocess.PIPE, stderr=errors, text=True, start_new_session=True
+            ["bash", "-c", self.meant(text)],
+            cwd=self.folder,
+            env=self.settings,
+            stdin=subprocess.DEVNULL,
+            stdout=subprocess.PIPE,
+            stderr=errors,
+            text=True,
+            start_new_session=True,
         )
 
     def run(self, step):
@@ -132,7 +152,10 @@ class Place:
         if wanted not in (None, output, errors, output + errors):
             raise Found("%s prints %r, and not as the page says %r" % (step, output + errors, wanted))
         if done.returncode != step.status:
-            raise Found("%s has status %d, not %d, and prints %r" % (step, done.returncode, step.status, (output + errors)[-400:]))
+            raise Found(
+                "%s has status %d, not %d, and prints %r"
+                % (step, done.returncode, step.status, (output + errors)[-400:])
+            )
 
     def close(self):
         """Ends what is still open, with all that it has started."""

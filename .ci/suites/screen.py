@@ -2,9 +2,9 @@
 
 Taken are the first block that begins with `./thriftd serve` and the six behind it: what the server says, the command
 that calls it, the client in Python, the one that stops it, and the journal with the command that prints it. They run in
-a folder of their own, with the script's path in place of `./thriftd`, and at a port that is free. The client's two calls are made by
-bytes too, so that the rest is seen where Apache's library isn't installed. Then each other block that begins so has to
-listen."""
+a folder of their own, with the script's path in place of `./thriftd`, and at a port that is free. The client's two
+calls are made by bytes too, so that the rest is seen where Apache's library isn't installed. Then each other block that
+begins so has to listen."""
 import contextlib
 import functools
 import os
@@ -31,8 +31,8 @@ CALLS = [
 
 
 def free_port():
-    """A port that nobody listens at, below those that the system gives to others. It is asked for by a connection, since a
-    socket that listens there may be held a moment longer by a program that another test starts."""
+    """A port that nobody listens at, below those that the system gives to others. It is asked for by a connection,
+    since a socket that listens there may be held a moment longer by a program that another test starts."""
     for port in random.sample(range(12000, 32000), 100):
         with socket.socket() as probe:
             if probe.connect_ex(("127.0.0.1", port)):
@@ -76,7 +76,9 @@ def compare(what, got, wanted):
 
 def has_library():
     words = ["/usr/bin/python3", "-c", "import thrift"]
-    return bool(shutil.which("thrift")) and os.path.exists(words[0]) and not subprocess.run(words, stderr=subprocess.DEVNULL, check=False).returncode
+    if not shutil.which("thrift") or not os.path.exists(words[0]):
+        return False
+    return not subprocess.run(words, stderr=subprocess.DEVNULL, check=False).returncode
 
 
 def pasted(block, start, folder):
@@ -115,7 +117,8 @@ class Start:
 def start_of(program):
     """The script of the tree, with a program."""
     kept = {name: value for name, value in os.environ.items() if not name.startswith("THRIFTD")}
-    return Start(os.path.join(TOP, "thriftd"), os.path.join(TOP, "examples"), {**kept, "THRIFTD": program, "THRIFTD_NO_BUILD": "1"})
+    settings = {**kept, "THRIFTD": program, "THRIFTD_NO_BUILD": "1"}
+    return Start(os.path.join(TOP, "thriftd"), os.path.join(TOP, "examples"), settings)
 
 
 def session(screen, client, start):
@@ -135,7 +138,8 @@ def session(screen, client, start):
 
 def listens(block, start):
     port = free_port()
-    with room(start.examples) as folder, served(block.replace(PORT, port), start.script, folder, env=start.settings) as server:
+    block = block.replace(PORT, port)
+    with room(start.examples) as folder, served(block, start.script, folder, env=start.settings) as server:
         compare("the first line of %s" % block.strip(), server.stdout.readline(), "listening 127.0.0.1:%s\n" % port)
 
 
@@ -158,7 +162,7 @@ def first_screen():
     says = re.findall(r"It prints `([^`]*)`", text)
     summary = re.search(r"`(conn 0 [^`]*)` to `(conn [^`]*)`, and `(calls [^`]*)`", text)
     if not serving or len(blocks) < serving[0] + 7 or len(says) < 3 or not summary:
-        raise Unfit("README.md has no block that begins with %s, with the six behind it, three answers and a summary" % COMMAND)
+        raise Unfit("README.md has no %s with six blocks behind it, three answers and a summary" % COMMAND)
     return Screen(blocks[serving[0] : serving[0] + 7], says, summary.groups(), [blocks[at] for at in serving[1:]])
 
 

@@ -41,7 +41,24 @@ GOOD = [
     "record a binary 8 A=store --read-budget=16384000",
     "workload 1 1 0",
 ]
-SPOILT = ["", "-", "--", "0", "9", "65536", "1000001", "00000000001", "A=B=store", "=store", "binary", "json", "--to", "--default=x", "--max-frame=0", "x"]
+SPOILT = [
+    "",
+    "-",
+    "--",
+    "0",
+    "9",
+    "65536",
+    "1000001",
+    "00000000001",
+    "A=B=store",
+    "=store",
+    "binary",
+    "json",
+    "--to",
+    "--default=x",
+    "--max-frame=0",
+    "x",
+]
 SERVE = "serve @tutorial binary 0 Calculator=calculator --accept 1 --listen "
 CALL = "call @tutorial binary Calculator add {1=1i,2=1i} --to "
 
@@ -55,7 +72,14 @@ def ran(words, program=None, cwd=TOP, **changed):
     """A run of the script, with a program that is named or without."""
     named = {"THRIFTD": program} if program else {}
     return subprocess.run(
-        [SCRIPT, *words], cwd=cwd, env=settings(**named, **changed), stdin=subprocess.DEVNULL, capture_output=True, text=True, timeout=SECONDS, check=False
+        [SCRIPT, *words],
+        cwd=cwd,
+        env=settings(**named, **changed),
+        stdin=subprocess.DEVNULL,
+        capture_output=True,
+        text=True,
+        timeout=SECONDS,
+        check=False,
     )
 
 
@@ -77,7 +101,14 @@ def commands():
 def faults(lists):
     """What the script finds wrong with each of these lists of words."""
     given = b"".join(b"%d\0" % len(words) + b"".join(word.encode() + b"\0" for word in words) for words in lists)
-    done = subprocess.run(["bash", "-euo", "pipefail", "-c", "top=$PWD\n" + JUDGE], cwd=TOP, input=given, stdout=subprocess.PIPE, timeout=SECONDS, check=False)
+    done = subprocess.run(
+        ["bash", "-euo", "pipefail", "-c", "top=$PWD\n" + JUDGE],
+        cwd=TOP,
+        input=given,
+        stdout=subprocess.PIPE,
+        timeout=SECONDS,
+        check=False,
+    )
     found = done.stdout.decode().split("\0")[:-1]
     want("lists of words that were looked at", len(found), len(lists))
     return found
@@ -85,7 +116,11 @@ def faults(lists):
 
 def words_of_rows():
     """Each row's words are wrong exactly where the row says so."""
-    every = {tuple(it.replace("$port", "1") for it in row.words): row.status == 1 for path in rows.files_of_rows() for row in rows.rows_of(path)}
+    every = {
+        tuple(it.replace("$port", "1") for it in row.words): row.status == 1
+        for path in rows.files_of_rows()
+        for row in rows.rows_of(path)
+    }
     for (words, is_wrong), fault in zip(every.items(), faults(list(every))):
         if bool(fault) != is_wrong:
             yield "%s: %s" % (shlex.join(words), fault or "nothing is wrong")
@@ -95,7 +130,9 @@ def spoilt(pick):
     words = pick.choice(GOOD).split()
     for _ in range(pick.randint(0, 2)):
         at = pick.randrange(len(words))
-        words[at : at + pick.randint(0, 1)] = pick.choice([[], [pick.choice(SPOILT)], [words[at], words[at]], [pick.choice(words)]])
+        words[at : at + pick.randint(0, 1)] = pick.choice(
+            [[], [pick.choice(SPOILT)], [words[at], words[at]], [pick.choice(words)]]
+        )
         words = words or ["check"]
     return tuple(words)
 
@@ -106,9 +143,20 @@ def spoilt_words(program):
     lists = sorted({spoilt(pick) for _ in range(400)})
     with tempfile.TemporaryDirectory(prefix="thriftd-start-") as folder:
         for words, fault in zip(lists, faults(lists)):
-            done = subprocess.run([program, *words], cwd=folder, stdin=subprocess.DEVNULL, capture_output=True, timeout=SECONDS, check=False)
+            done = subprocess.run(
+                [program, *words],
+                cwd=folder,
+                stdin=subprocess.DEVNULL,
+                capture_output=True,
+                timeout=SECONDS,
+                check=False,
+            )
             if bool(fault) != (done.returncode == 1):
-                yield "%s: %s, and the program's status is %d" % (shlex.join(words), fault or "nothing is wrong", done.returncode)
+                yield "%s: %s, and the program's status is %d" % (
+                    shlex.join(words),
+                    fault or "nothing is wrong",
+                    done.returncode,
+                )
 
 
 LINES = {
@@ -137,7 +185,9 @@ def lines_of_use(program):
     """The program's line is the first, then come what is wrong and the line of use."""
     uses = {line.split()[0]: line for line in table("command")}
     for text, fault in LINES.items():
-        words = subprocess.run(["bash", "-c", "printf '%s\\0' " + text], stdout=subprocess.PIPE, text=True, check=True).stdout.split("\0")[:-1]
+        words = subprocess.run(
+            ["bash", "-c", "printf '%s\\0' " + text], stdout=subprocess.PIPE, text=True, check=True
+        ).stdout.split("\0")[:-1]
         done = ran(words, program)
         use = uses.get(words[0], "COMMAND ..: thriftd help lists them")
         want(text, (done.returncode, done.stdout), (1, ""))
@@ -172,7 +222,11 @@ def pages():
         for option in re.findall(r"--[a-z-]+", line):
             if not re.search(r"^  %s .*\S" % option, page, re.MULTILINE):
                 yield "the page of %s doesn't tell of %s" % (name, option)
-    want("help for what there isn't", (ran(["help", "serv"]).returncode, ran(["help", "serv"]).stderr), (1, "thriftd: serv is no command: did you mean serve?\n"))
+    want(
+        "help for what there isn't",
+        (ran(["help", "serv"]).returncode, ran(["help", "serv"]).stderr),
+        (1, "thriftd: serv is no command: did you mean serve?\n"),
+    )
 
 
 def version():
@@ -202,7 +256,14 @@ def examples_of_pages(program):
         serve = serve.replace("9090", port).replace("--accept 100", "--accept %d" % len(calls))
         with started(shlex.split(serve)[1:], program, folder) as server:
             for line in [it for it in lines if it.split()[1] != "serve"]:
-                done = subprocess.run(["bash", "-c", line.replace("9090", port)], cwd=folder, env=settings(THRIFTD=program), capture_output=True, timeout=SECONDS, check=False)
+                done = subprocess.run(
+                    ["bash", "-c", line.replace("9090", port)],
+                    cwd=folder,
+                    env=settings(THRIFTD=program),
+                    capture_output=True,
+                    timeout=SECONDS,
+                    check=False,
+                )
                 want(line, (done.returncode, done.stderr), (0, b""))
             want(serve, server.wait(SECONDS), 0)
     want("commands with an example", sorted({it.split()[1] for it in table("example")}), sorted(commands()))
@@ -211,7 +272,9 @@ def examples_of_pages(program):
 @contextlib.contextmanager
 def started(words, program, folder):
     """A server that the script has started, and that listens."""
-    server = subprocess.Popen([SCRIPT, *words], cwd=folder, env=settings(THRIFTD=program), stdout=subprocess.PIPE, text=True)
+    server = subprocess.Popen(
+        [SCRIPT, *words], cwd=folder, env=settings(THRIFTD=program), stdout=subprocess.PIPE, text=True
+    )
     try:
         if not server.stdout.readline().startswith("listening"):
             raise Found("%s doesn't listen" % shlex.join(words))
@@ -248,7 +311,11 @@ def other_journals(program):
         first, second = ([*(SERVE + port).split(), "--journal", "/dev/null"] for port in ports)
         with started(first, program, folder), started(second, program, folder):
             pass
-        for words, status in ((["serve", "absent.thrift", *first[2:-1], "j"], 2), ([*first[:4], "A=store", *first[5:-1], "j"], 4), ([*first[:-1], "no/j"], 5)):
+        for words, status in (
+            (["serve", "absent.thrift", *first[2:-1], "j"], 2),
+            ([*first[:4], "A=store", *first[5:-1], "j"], 4),
+            ([*first[:-1], "no/j"], 5),
+        ):
             done = ran(words, program, folder)
             want(shlex.join(words), (done.returncode, os.listdir(folder)), (status, []))
 
@@ -256,14 +323,16 @@ def other_journals(program):
 def signals(program):
     """The script becomes the program, so a signal ends it."""
     for number in (signal.SIGTERM, signal.SIGINT):
-        with tempfile.TemporaryDirectory(prefix="thriftd-start-") as folder, started([*(SERVE + free_port()).split(), "--journal", "j"], program, folder) as server:
+        with tempfile.TemporaryDirectory(prefix="thriftd-start-") as folder, started(
+            [*(SERVE + free_port()).split(), "--journal", "j"], program, folder
+        ) as server:
             server.send_signal(number)
             want("the status of a server that gets signal %d" % number, server.wait(SECONDS), -number)
 
 
 def quick(program):
-    """What a start costs beside the program, as processor time, the least of some, is at most 25 ms. (Other tests run at
-    the same time, so the time that passes is no measure.)"""
+    """What a start costs beside the program, as processor time, the least of some, is at most 25 ms. (Other tests run
+    at the same time, so the time that passes is no measure.)"""
 
     def least(words):
         times = []
@@ -281,7 +350,7 @@ def quick(program):
 def tools(place):
     """A tool is run with its words; `help` lists it, and no file beside it."""
     place.copied()
-    place.write("copy/tools/greet", "#!/bin/sh\n# Greets someone. And no more.\necho \"hello $*\"\nexit 7\n", 0o755)
+    place.write("copy/tools/greet", '#!/bin/sh\n# Greets someone. And no more.\necho "hello $*"\nexit 7\n', 0o755)
     place.write("copy/tools/helper.py", "", 0o755)
     place.write("copy/tools/notes", "")
     place.write("copy/tools/check", "#!/bin/sh\necho no command of the program\n", 0o755)
@@ -297,10 +366,14 @@ def tools(place):
 def packed(place):
     """A copy whose dist/ has a program of its sources."""
     place.copied()
-    digest = subprocess.run([os.path.join(place.top, ".ci/digest")], stdout=subprocess.PIPE, text=True, check=True).stdout
+    digest = subprocess.run(
+        [os.path.join(place.top, ".ci/digest")], stdout=subprocess.PIPE, text=True, check=True
+    ).stdout
     with open(place.write("copy/dist/thriftd.gz", ""), "wb") as out:
         out.write(gzip.compress(RIGHT.encode()))
-    place.write("copy/dist/PROGRAM", "kit none\nprogram %s\nsources %s" % (hashlib.sha256(RIGHT.encode()).hexdigest(), digest))
+    place.write(
+        "copy/dist/PROGRAM", "kit none\nprogram %s\nsources %s" % (hashlib.sha256(RIGHT.encode()).hexdigest(), digest)
+    )
     return place
 
 
@@ -327,8 +400,12 @@ def changed_sources(place):
     """A change is seen at the next start: of src/ at once, and of proofs/ once a look is due again."""
     packed(place)
     proof = place.write("copy/crates/thriftd/proofs/a.antt", "")
-    digest = subprocess.run([os.path.join(place.top, ".ci/digest")], stdout=subprocess.PIPE, text=True, check=True).stdout
-    path = place.write("copy/dist/PROGRAM", "kit none\nprogram %s\nsources %s" % (hashlib.sha256(RIGHT.encode()).hexdigest(), digest))
+    digest = subprocess.run(
+        [os.path.join(place.top, ".ci/digest")], stdout=subprocess.PIPE, text=True, check=True
+    ).stdout
+    path = place.write(
+        "copy/dist/PROGRAM", "kit none\nprogram %s\nsources %s" % (hashlib.sha256(RIGHT.encode()).hexdigest(), digest)
+    )
     place.settings["THRIFTD_NO_BUILD"] = "1"
     for _ in range(2):
         place.wants(["thriftd"], 1, "thriftd: usage")
@@ -357,6 +434,15 @@ def tests(programs):
     for case in (tools, unpacked, changed_sources):
         yield Test(case.__name__.replace("_", " "), functools.partial(within, case))
     for program in programs:
-        for case in (spoilt_words, lines_of_use, no_words, examples_of_pages, journal_in_use, other_journals, signals, quick):
+        for case in (
+            spoilt_words,
+            lines_of_use,
+            no_words,
+            examples_of_pages,
+            journal_in_use,
+            other_journals,
+            signals,
+            quick,
+        ):
             title = "%s (%s)" % (case.__name__.replace("_", " "), os.path.basename(program))
             yield Test(title, lambda case=case, program=program: list(case(program) or []))

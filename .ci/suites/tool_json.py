@@ -4,6 +4,7 @@ import json
 import os
 import signal
 import subprocess
+import sys
 import tempfile
 
 from suite import SECONDS, TOP, Test
@@ -130,9 +131,19 @@ def follow(program):
                 demand(run.wait(SECONDS) == 130, "status %s at Ctrl-C", run.returncode)
 
 
+# Runs a command, and writes the most memory that it takes, in KB. (A process that is started counts what the one that
+# starts it had, and that of the suites is large.)
+MEASURE = """
+import resource, subprocess, sys
+status = subprocess.call(sys.argv[1:])
+print(resource.getrusage(resource.RUSAGE_CHILDREN).ru_maxrss, file=sys.stderr)
+sys.exit(status)
+"""
+
+
 def large_script(program):
     """A script of 64 MB is read in at most 100 MB."""
-    command = [os.path.join(TOP, "tools/json")]
+    command = [sys.executable, "-c", MEASURE, os.path.join(TOP, "tools/json")]
     with subprocess.Popen(
         command, stdin=subprocess.PIPE, stdout=subprocess.DEVNULL, stderr=subprocess.PIPE, env=settings(program)
     ) as run:
@@ -140,11 +151,9 @@ def large_script(program):
         for _ in range(60):
             run.stdin.write(b"00" * (1 << 19))
         run.stdin.write(b"\nend 0\n")
-        run.stdin.flush()
-        with open("/proc/%d/status" % run.pid, encoding="ascii") as told:
-            most = next(int(line.split()[1]) for line in told if line.startswith("VmHWM"))
         run.stdin.close()
-        demand(run.wait(SECONDS) == 0 and most < 100_000, "status %d, %d KB", run.returncode, most)
+        used = int(run.stderr.read().split()[-1])
+        demand(run.wait(SECONDS) == 0 and used < 100_000, "status %s, %d KB", run.returncode, used)
 
 
 def tests(programs):

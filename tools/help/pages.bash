@@ -41,8 +41,8 @@ facts_of() {
   done
 }
 
-# set_places: sets me to how the script is called in examples, and shelf to where the documents are, in a clone or in the
-# package
+# set_places: sets me to how the script is called in examples, and shelf to where the documents are, in a clone or in
+# the package
 set_places() {
   me=./thriftd shelf=
   [ ! -e "$top/program" ] || me=thriftd shelf=${top%/lib/thriftd}/share/doc/thriftd/
@@ -97,7 +97,8 @@ print_overview() {
     facts_of "$name"
     printf 'thriftd %s\n    %s\n' "${uses[$name]}" "$does"
   done
-  printf 'thriftd help [COMMAND], thriftd version\n    print this, or the page of a command or a tool, and the version\n'
+  printf 'thriftd help [COMMAND], thriftd version\n'
+  printf '    print this, or the page of a command or a tool, and the version\n'
   find_tools "$1"
   if [ ${#tools[@]} -gt 0 ]; then
     printf '\ntools, of which nothing is proved: thriftd NAME ..\n'

@@ -1,5 +1,5 @@
-# Looks at a command's words by the table `commands`; the script `thriftd` sources this. Only the program decides whether
-# words are a command. This says which words it will surely take, and of others what is wrong.
+# Looks at a command's words by the table `commands`; the script `thriftd` sources this. Only the program decides
+# whether words are a command. This says which words it will surely take, and of others what is wrong.
 
 declare -gA kinds=() says=() uses=()
 commands=()
@@ -135,15 +135,18 @@ kind_text() {
   printf '%s' "$text"
 }
 
+# unlike NAME FORM VALUE WORD..: notes that a value isn't what a place or an option is, and which word is like it
+unlike() { wrong '%s is %s%s, not %q%s' "$1" "$2" "$(kind_text "$1")" "$3" "$(nearest "${@:3}")"; }
+
 # look_at_value NAME VALUE: looks whether a value is of the kind of a place or an option
 look_at_value() {
   local kind
   read -ra kind <<< "${kinds[$1]}"
   case ${kind[0]} in
     some) [ -n "$2" ] || wrong '%s is empty' "$1" ;;
-    one) is_among "$2" "${kind[@]:1}" || wrong '%s is %s, not %q%s' "$1" "$(kind_text "$1")" "$2" "$(nearest "$2" "${kind[@]:1}")" ;;
-    number) is_number "$2" "${kind[1]}" "${kind[2]}" || wrong '%s is a number from %s, not %q' "$1" "$(kind_text "$1")" "$2" ;;
-    digits) [[ $2 =~ ^[0-9]+$ && ${#2} -le ${kind[1]} ]] || wrong '%s is a number of %s, not %q' "$1" "$(kind_text "$1")" "$2" ;;
+    one) is_among "$2" "${kind[@]:1}" || unlike "$1" '' "$2" "${kind[@]:1}" ;;
+    number) is_number "$2" "${kind[1]}" "${kind[2]}" || unlike "$1" 'a number from ' "$2" ;;
+    digits) [[ $2 =~ ^[0-9]+$ && ${#2} -le ${kind[1]} ]] || unlike "$1" 'a number of ' "$2" ;;
     pair)
       if [[ $2 != ?*=?* ]]; then
         wrong '%q is no %s' "$2" "$1"
@@ -197,7 +200,8 @@ look_at_options() {
   done
   if [ -z "$fault" ] && [ -n "${values[--read-budget]-}" ]; then
     frame=${values[--max-frame]-${kinds[--max-frame]##* }}
-    [ $((10#${values[--read-budget]})) -ge $((10#$frame)) ] || wrong '--read-budget is less than --max-frame, which is %s' "$frame"
+    [ $((10#${values[--read-budget]})) -ge $((10#$frame)) ] ||
+      wrong '--read-budget is less than --max-frame, which is %s' "$frame"
   fi
 }
 
@@ -224,7 +228,9 @@ look_at_words() {
   look_at_places
   look_at_options
   case $* in
-    *[$'\x80'-$'\xff']*) printf '%s' "$*" | iconv -f UTF-8 -t UTF-8 > /dev/null 2>&1 || wrong 'a word is not in UTF-8' ;;
+    *[$'\x80'-$'\xff']*)
+      printf '%s' "$*" | iconv -f UTF-8 -t UTF-8 > /dev/null 2>&1 || wrong 'a word is not in UTF-8'
+      ;;
   esac
 }
 
