@@ -139,9 +139,9 @@ def words(program):
     front = ["@tutorial", "binary", "Calculator", "add", "{}"]
     cases = [
         (front, 1, "the following arguments are required: --to"),
-        ([*front, "--to", "0"], 1, "argument --to: invalid port value: '0'"),
-        ([*front, "--to", "65536"], 1, "argument --to: invalid port value: '65536'"),
-        ([*front, "--to", "1", "--timeout", "0"], 1, "argument --timeout: invalid seconds value: '0'"),
+        ([*front, "--to", "0"], 1, "argument --to: 0 is no port, 1 to 65,535"),
+        ([*front, "--to", "65536"], 1, "argument --to: 65536 is no port, 1 to 65,535"),
+        ([*front, "--to", "1", "--timeout", "0"], 1, "argument --timeout: 0 is no number of seconds, above 0 and up to 1,000,000"),
         (["--list"], 1, "--list takes IDL"),
         (["--list", "missing"], 2, "idl missing 0:0 Absent"),
         (["--list", ""], 1, "'' is no name of an IDL"),

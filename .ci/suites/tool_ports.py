@@ -549,19 +549,27 @@ def refuses_input(program, folder):
         demand("a script with no line by --as", tool("play", "-", port, "--as", "1")[0], 1)
 
 
+def large_lines(sizes):
+    """Writes a script with pieces of so many bytes, each a frame of a oneway call, a part at a time."""
+    yield b"open\n"
+    for size in sizes:
+        yield b"data 0 %08x80010004" % (size - 4)
+        for at in range(8, size, 1 << 14):
+            yield b"ab" * min(1 << 14, size - at)
+        yield b"\n"
+    yield b"end 0\n"
+
+
 def plays_large(program, folder):
-    """A script of 64 MB, of one piece or of many, takes at most 100 MB."""
-    most, unit = 67_108_000, (b"%08x" % 8_000_000) + b"80010004" + b"ab" * 7_999_996
-    whole = b"open\ndata 0 " + unit * 4 + b"\ndata 0 " + b"ab" * 1_500_000 + b"\nend 0\n"
-    small = b"data 0 " + (b"%08x80010004" % 29_996).ljust(60_000, b"0") + b"\n"
-    for text in (whole, b"open\n" + small * (most // len(small)) + b"end 0\n"):
-        path = os.path.join(folder, "large.script")
+    """A script of 64 MB, of few pieces or of many, takes at most 100 MB."""
+    for sizes in ([16_000_000, 16_000_000, 1_500_000], [30_000] * 1_118):
+        path, peaks, started = os.path.join(folder, "large.script"), [], []
         with open(path, "wb") as out:
-            out.write(text)
-        peaks, started = [], []
+            out.writelines(large_lines(sizes))
+        demand("whether the script is large", 66_000_000 < os.path.getsize(path) <= 67_108_864, True)
 
         def answer(link):
-            while link.recv(1 << 20):
+            while link.recv(1 << 16):
                 pass
             peaks.extend(map(int, re.findall("VmHWM:(.*) kB", text_of("/proc/%d/status" % started[0].pid))))
 
@@ -569,7 +577,7 @@ def plays_large(program, folder):
             started.append(play)
             demand("play's end", ended(play), (0, "", ""))
         if not 0 < peaks[0] < 100_000:
-            raise Found("a script of %d bytes took %d KiB" % (len(text), peaks[0]))
+            raise Found("a script of %d pieces took %d KiB" % (len(sizes), peaks[0]))
 
 
 CASES = [stops, stops_late, stops_nothing, taps_pieces, taps_breaks, taps_until_signalled, taps_many]
