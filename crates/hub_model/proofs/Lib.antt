@@ -1,0 +1,12 @@
+pub mod Owned
+pub mod Seeing
+pub mod Opening
+pub mod AsksSeen
+pub mod Working
+pub mod Talking
+pub mod Allowing
+pub mod Sums
+pub mod Counting
+pub mod AsOneHall
+pub mod Accounting
+pub mod Breaks
