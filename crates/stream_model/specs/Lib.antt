@@ -1,0 +1,9 @@
+pub mod Plan
+pub mod Progress
+pub mod Messages
+pub mod Handed
+pub mod Talk
+pub mod Turns
+pub mod Headline
+pub mod Reading
+pub mod Examples
