@@ -1,3 +1,4 @@
+pub mod Buffering
 pub mod EntryAgain
 pub mod EntryFound
 pub mod EntryPlaces

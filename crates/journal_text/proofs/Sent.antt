@@ -15,7 +15,8 @@ use Rattle.journal_text.specs.contracts.segment_journal.SegmentJournal as Segmen
 use Rattle.journal_text.specs.contracts.sink_journal.SinkJournal as SinkJournal
 use Rattle.journal_text.specs.contracts.spool_journal.SpoolJournal as SpoolJournal
 use Rattle.lists.proofs.appended.Appended.TheSendSync.{the_send as appended_send}
-use Rattle.journal_text.proofs.buffered.Buffered.TheSendSync.{the_field_send as buffered_send}
+use Rattle.lists.proofs.noted_bytes.NotedBytes.TheSendSync.{the_send as noted_send}
+use Rattle.journal_text.specs.contracts.buffered.Buffered as Buffered
 
 value_send : IsSend (Value.the_field).row
 value_send = search (sendable, crosses, values.crosses, text_send, tag_send) depth 14
@@ -28,6 +29,9 @@ answer_send = search (sendable, value_send) depth 12
 
 entry_send : IsSend Entry.the_row
 entry_send = search (sendable, key_send, call_send, answer_send) depth 12
+
+buffered_send : (K : RattleType) (sink : Ghosts K.Denot) → IsSend K → IsSend (Buffered.the_row K sink)
+buffered_send K sink send = search (sendable, crosses, noted_send, appended_send) depth 16
 
 pub journal_send : (K : RattleType) (sink : Ghosts K.Denot) → IsSend K → IsSend (SinkJournal.the_row K sink)
 journal_send K sink send = search (sendable, crosses, entry_send, appended_send, buffered_send) depth 20

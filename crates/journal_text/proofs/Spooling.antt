@@ -1,5 +1,5 @@
 -- How the lines of segments go to a sink, one segment after the other.
-use Rattle.std.proofs.Common.{◌≡◌, ℕ, ◌+◌, ◌*◌, List, [], ◌++◌, take, drop, Option, sym, ap, ◌∙◌, arith, append-nil, drop-drop}
+use Rattle.std.proofs.Common.{◌≡◌, ℕ, ◌+◌, ◌*◌, List, [], ◌++◌, take, drop, Option, sym, ap, ◌∙◌, subst, arith, append-nil, drop-drop}
 use Rattle.std.proofs.Math.Seq.{take-add}
 use Rattle.std.proofs.lemmas.Grind.{flat_map-append}
 use Rattle.streams.specs.Content.{told_more}
@@ -8,7 +8,8 @@ use Rattle.value_text.specs.Handing.{HandsOver}
 use Rattle.host_model.specs.Report.{journal_lines}
 use Rattle.call_rules.specs.Entries.{CallEntry}
 use Rattle.journal_text.specs.EntryText.{entry_text}
-use Rattle.journal_text.specs.Segments.{segment_room}
+use Rattle.journal_text.specs.JournalStates.{IsTakenShort}
+use Rattle.journal_text.specs.Segments.{segment_room, IsSpooledInPart}
 use Rattle.journal_text.proofs.Written.{told_twice}
 
 -- the lines of the first segments were taken, and the others are left
@@ -38,4 +39,15 @@ next_spooled x y z f g h entries left rest to one rest_is =
       taken = passed ∙ ap (λ t. told_more t (journal_lines entry_text next)) to.taken
           ∙ told_twice x (journal_lines entry_text before) (journal_lines entry_text next) ∙ ap (told_more x) (sym lines);
       kept = one.kept ∙ to.kept;
+    }
+
+-- some of the next one is lost
+pub spooled_short : (x y z : Option (List ℕ)) (f g : ℕ) (entries left same : List CallEntry) → IsSpooledTo x y f g entries left
+    → IsTakenShort y z (journal_lines entry_text (take segment_room left)) → same ≡ left → IsSpooledInPart x z entries same
+spooled_short x y z f g entries left same to short is =
+    record {
+      segments = to.segments;
+      left_are = is ∙ to.left_are;
+      part = subst (λ o. IsTakenShort o z (journal_lines entry_text (take segment_room same))) to.taken
+          (subst (λ (es : List CallEntry). IsTakenShort y z (journal_lines entry_text (take segment_room es))) (sym is) short);
     }

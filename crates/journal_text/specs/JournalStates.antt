@@ -1,7 +1,8 @@
 -- What the two kinds of journal stand for.
-use Rattle.std.specs.Prelude.{◌≡◌, ℕ, ◌-◌, ◌^◌, Bool, false, List, [], length, min, Option, refl}
+use Rattle.std.specs.Prelude.{◌≡◌, ◌≢◌, ℕ, ◌-◌, ◌^◌, Bool, false, List, [], length, min, Option, refl}
 use Rattle.std.specs.Coded.{Coded, code_by, coded×, coded_ℕ, coded_bool, coded_list}
 use Rattle.streams.specs.Content.{told_more}
+use Rattle.streams.specs.Taken.{IsTakenBut}
 use Rattle.host_model.specs.Report.{journal_lines}
 use Rattle.call_rules.specs.Entries.{CallEntry, call_entry_code}
 use Rattle.journal_text.specs.EntryText.{entry_text}
@@ -45,6 +46,12 @@ pub record IsWritten (before now : Option (List ℕ)) (held : List ℕ) (entries
   pub counted : count ≡ appended_count entries
   pub passed_on : torn ≡ false → held ≡ []
   pub lines : torn ≡ false → HasLines before now entries
+
+-- a sink took a beginning of this text, and some of it is lost
+pub record IsTakenShort (before now : Option (List ℕ)) (text : List ℕ) : Type 0 where
+  pub lost : List ℕ
+  pub some : lost ≢ []
+  pub taken : IsTakenBut before now text lost
 
 -- what a sink has taken is a beginning of what it had taken before, and this text behind it
 pub record IsCutShort (before now : Option (List ℕ)) (text : List ℕ) : Type 0 where

@@ -1,3 +1,4 @@
+pub mod Buffers
 pub mod EntryReading
 pub mod EntryText
 pub mod JournalStates

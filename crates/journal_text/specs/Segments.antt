@@ -2,10 +2,10 @@
 use Rattle.std.specs.Prelude.{◌≡◌, ℕ, ◌+◌, ◌*◌, ◌^◌, ◌<◌, ◌≤◌, List, [], ◌∷◌, ◌++◌, length, take, drop, Option}
 use Rattle.std.specs.List.{AllByRecursion}
 use Rattle.streams.specs.Content.{told_more}
-use Rattle.streams.specs.Taken.{IsTakenInPart}
 use Rattle.host_model.specs.Report.{journal_lines}
 use Rattle.call_rules.specs.Entries.{CallEntry}
 use Rattle.journal_text.specs.EntryText.{entry_text}
+use Rattle.journal_text.specs.JournalStates.{IsTakenShort}
 
 -- lists, one behind the other
 abbrev pub chained : {X : Type 0} → List (List X) → List X
@@ -28,8 +28,9 @@ pub record AreSegments (full : List (List CallEntry)) (last : List CallEntry) (f
   pub counted : count ≡ length (chained full ++ last)
   pub bound : count + free < 2 ^ 64
 
--- A sink that had taken `before` has taken the lines of the first segments, and a beginning of the next one's: those entries are left whose segments it didn't take whole.
+-- A sink that had taken `before` has taken the lines of the first segments, and a beginning of the next one's that lacks some of it: those entries
+-- are left whose segments it didn't take whole.
 pub record IsSpooledInPart (before now : Option (List ℕ)) (entries left : List CallEntry) : Type 0 where
   pub segments : ℕ
   pub left_are : left ≡ drop (segment_room * segments) entries
-  pub part : IsTakenInPart (told_more before (journal_lines entry_text (take (segment_room * segments) entries))) now (journal_lines entry_text (take segment_room left))
+  pub part : IsTakenShort (told_more before (journal_lines entry_text (take (segment_room * segments) entries))) now (journal_lines entry_text (take segment_room left))

@@ -10,6 +10,7 @@ ghost use Rattle.host_model.specs.Report.{journal_lines};
 ghost use Rattle.value_text.specs.Handing.{HandsText};
 ghost use Rattle.call_rules.specs.PlainCalls.{IsPlainCall, IsPlainAnswer};
 ghost use Rattle.journal_text.specs.EntryText.{entry_text};
+ghost use Rattle.journal_text.specs.JournalStates.{IsTakenShort};
 ghost use Rattle.journal_text.specs.Segments.{chained, segment_room, IsFull, IsSpooledInPart};
 
 use crate::spelling::spell_entries;
@@ -103,8 +104,8 @@ impl SegmentJournal {
         self.last.as_slice().get(place)
     }
 
-    /// Writes the lines of all entries, the oldest first, and gives up each segment once its lines are written; takes no memory. Where a write fails, those
-    /// entries are left whose segments weren't written whole, so a journal that is still to be added to isn't spooled.
+    /// Writes the lines of all entries, the oldest first, and gives up each segment once its lines are written; takes no memory. Where a write fails,
+    /// just those entries are left whose segments weren't written whole, so a journal that is still to be added to isn't spooled.
     pub fn spool<K: Sink>(&mut self, out: &mut K) -> Result<(), Failed>
         ensures told { MatchResult result
             (λ _. K.taken out.new ≡ told_more (K.taken out.old) (journal_lines entry_text self.old.entries))
@@ -122,6 +123,7 @@ impl SegmentJournal {
     fn spool_first<K: Sink>(&mut self, out: &mut K) -> Result<(), Failed>
         ensures handed { HandsText (K.taken out.old) (K.taken out.new) (K.faults out.old) (K.faults out.new)
             (journal_lines entry_text (take segment_room self.old.entries)) result }
+        ensures short { OnErr result (IsTakenShort (K.taken out.old) (K.taken out.new) (journal_lines entry_text (take segment_room self.old.entries))) }
         ensures left { MatchResult result
             (λ _. self.new.entries ≡ drop segment_room self.old.entries)
             (λ _. self.new.entries ≡ self.old.entries) }

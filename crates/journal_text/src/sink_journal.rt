@@ -15,9 +15,6 @@ use std::marker::Model;
 use std::snapshot::Snapshot;
 use streams::{Failed, Sink};
 
-/// How many bytes are held at most.
-const MOST_HELD: usize = 4096;
-
 /// A journal that writes the line of each entry into a sink, before the next one is entered.
 #[derive(Drop)]
 pub struct SinkJournal<K: Sink> {
@@ -41,7 +38,7 @@ impl<K: Sink> Model for SinkJournal<K> {
 
     ghost view = { λ j. record { sink = j.out.sink; opening = j.opening.value; entries = j.appended; torn = j.torn } };
 
-    ghost invariant = { λ j. IsWritten (K.taken j.opening.value) (K.taken j.out.sink) j.out.held.items j.appended j.count j.torn };
+    ghost invariant = { λ j. IsWritten (K.taken j.opening.value) (K.taken j.out.sink) j.out.held j.appended j.count j.torn };
 }
 
 /// There was no memory. The sink comes back.
@@ -55,7 +52,7 @@ impl<K: Sink> SinkJournal<K> {
         ensures err { IfErr result (λ no. no.0 ≡ sink) }
     {
         let opening = Snapshot::of(&sink);
-        match Buffered::over(alloc, sink, MOST_HELD) {
+        match Buffered::over(alloc, sink) {
             Err(sink) => Err(NoJournal(sink)),
             Ok(out) => Ok(SinkJournal {
                 out,

@@ -1,6 +1,6 @@
 //! Hands the lines of entries to a sink, and takes no memory.
 
-ghost use Rattle.std.specs.Prelude.{◌++◌, codes};
+ghost use Rattle.std.specs.Prelude.{◌≡◌, ◌++◌, codes, OnErr};
 ghost use Rattle.text_out.specs.Decimal.{decimal_of};
 ghost use Rattle.thrift_value.specs.TreeOf.{tree_of};
 ghost use Rattle.value_text.specs.Handing.{HandsText};
@@ -8,6 +8,7 @@ ghost use Rattle.value_text.specs.ValueText.{tree_text};
 ghost use Rattle.call_rules.specs.Answers.{plain_answer};
 ghost use Rattle.host_model.specs.Report.{journal_lines};
 ghost use Rattle.journal_text.specs.EntryText.{next_word, front_text, answered_text, call_line, entry_text};
+ghost use Rattle.journal_text.specs.JournalStates.{IsTakenShort};
 
 use crate::front::{MOST_FRONT, put_front};
 use call_rules::{Answer, Call, Entry, Key};
@@ -16,23 +17,41 @@ use streams::{Failed, Sink};
 use thrift_value::Value;
 use value_text::{hand_over, spell_value};
 
-/// Hands the line of an entry to a sink.
+/// Hands the line of an entry to a sink. Where it fails, some of the line is lost.
 pub(crate) fn spell_entry<K: Sink>(out: &mut K, entry: &Entry) -> Result<(), Failed>
-    ensures { HandsText (K.taken out.old) (K.taken out.new) (K.faults out.old) (K.faults out.new) (call_line entry.now) result }
+    ensures handed { HandsText (K.taken out.old) (K.taken out.new) (K.faults out.old) (K.faults out.new) (call_line entry.now) result }
+    ensures short { OnErr result (IsTakenShort (K.taken out.old) (K.taken out.new) (call_line entry.now)) }
 {
-    spell_front(out, &entry.key, &entry.call)?;
-    spell_asked(out, &entry.call)?;
-    spell_answer(out, &entry.answer)?;
-    hand_over(out, b"\n")
+    spell_text(out, entry)?;
+    end_line(out)
 }
 
-/// Hands the lines of entries to a sink.
+/// Hands the lines of entries to a sink. Where it fails, some of them is lost.
 pub(crate) fn spell_entries<K: Sink>(out: &mut K, entries: &[Entry]) -> Result<(), Failed>
-    ensures { HandsText (K.taken out.old) (K.taken out.new) (K.faults out.old) (K.faults out.new) (journal_lines entry_text entries.now) result }
+    ensures handed { HandsText (K.taken out.old) (K.taken out.new) (K.faults out.old) (K.faults out.new) (journal_lines entry_text entries.now) result }
+    ensures short { OnErr result (IsTakenShort (K.taken out.old) (K.taken out.new) (journal_lines entry_text entries.now)) }
 {
     for entry in entries {
         spell_entry(out, entry)?;
     }
+    Ok(())
+}
+
+/// Hands the text of an entry.
+fn spell_text<K: Sink>(out: &mut K, entry: &Entry) -> Result<(), Failed>
+    ensures { HandsText (K.taken out.old) (K.taken out.new) (K.faults out.old) (K.faults out.new) (entry_text entry.now) result }
+{
+    spell_front(out, &entry.key, &entry.call)?;
+    spell_asked(out, &entry.call)?;
+    spell_answer(out, &entry.answer)
+}
+
+/// Ends a line.
+fn end_line<K: Sink>(out: &mut K) -> Result<(), Failed>
+    ensures handed { HandsText (K.taken out.old) (K.taken out.new) (K.faults out.old) (K.faults out.new) (codes "\n") result }
+    ensures none { OnErr result (K.taken out.new ≡ K.taken out.old) }
+{
+    out.write(b"\n")?;
     Ok(())
 }
 

@@ -7,4 +7,4 @@ pub returns-clause-err : goal.returns-clause-err
 returns-clause-err c =
     cut_back c.args.into.now.items c.take_from-out.result.content.items c.spell_entry-spelled.new.out.content.items c.give_back.new.into.items _ _ (length c.as_slice-start.result.now)
     (call_line c.args.entry.now) c.spell_entry-spelled.result c.give_back.result
-    (ap length c.as_slice-start.ensures.value) c.take_from-out.ensures c.spell_entry-spelled.ensures c.give_back.ensures.went c.give_back.ensures.err
+    (ap length c.as_slice-start.ensures.value) c.take_from-out.ensures c.spell_entry-spelled.ensures.handed c.give_back.ensures.went c.give_back.ensures.err

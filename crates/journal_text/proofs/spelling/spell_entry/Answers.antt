@@ -1,43 +1,24 @@
-use Rattle.std.proofs.Common.{◌++◌, codes, ap, ◌∙◌}
-use Rattle.call_rules.specs.Answers.{plain_answer}
-use Rattle.value_text.specs.ValueText.{tree_text}
-use Rattle.journal_text.specs.EntryText.{front_text, answered_text, next_word, call_line}
-use Rattle.journal_text.proofs.Handing.{blank_parts}
-use Rattle.value_text.proofs.Handed.{goes_on, breaks, hands_same}
+use Rattle.std.proofs.Common.{[], codes}
+use Rattle.journal_text.specs.EntryText.{entry_text}
+use Rattle.journal_text.proofs.Handing.{on_err, short_of_more, short_last}
+use Rattle.value_text.proofs.Handed.{goes_on, breaks}
 use Rattle.journal_text.proofs.spelling.spell_entry.Goals as goal
 
-pub returns-in_err-spell_front : goal.returns-in_err-spell_front
-returns-in_err-spell_front g c =
-    hands_same (g.K.Sink.taken c.args.out.now) (g.K.Sink.taken c.spell_front.new.out) (g.K.Sink.faults c.args.out.now) (g.K.Sink.faults c.spell_front.new.out) ((front_text c.entry.inside.call.silent c.entry.inside.key c.entry.inside.call.slot ++ codes " ") ++ ((c.entry.inside.call.method ++ next_word (tree_text c.entry.inside.call.args)) ++ ((next_word (answered_text (plain_answer c.entry.inside.answer))) ++ (codes "\n")))) (call_line c.args.entry.now) c.from_residual.result
-    (blank_parts (front_text c.entry.inside.call.silent c.entry.inside.key c.entry.inside.call.slot) (c.entry.inside.call.method ++ next_word (tree_text c.entry.inside.call.args)) (next_word (answered_text (plain_answer c.entry.inside.answer))) (codes "\n") ∙ ap call_line c.entry.view_is)
-    (breaks (g.K.Sink.taken c.args.out.now) (g.K.Sink.taken c.spell_front.new.out) (g.K.Sink.faults c.args.out.now) (g.K.Sink.faults c.spell_front.new.out) (front_text c.entry.inside.call.silent c.entry.inside.key c.entry.inside.call.slot ++ codes " ") ((c.entry.inside.call.method ++ next_word (tree_text c.entry.inside.call.args)) ++ ((next_word (answered_text (plain_answer c.entry.inside.answer))) ++ (codes "\n"))) c.from_residual.result c.from_residual.ensures.0 (c.in_err-spell_front.ensures {u = tt}))
+pub returns-in_err-spell_text-clause-handed : goal.returns-in_err-spell_text-clause-handed
+returns-in_err-spell_text-clause-handed g c =
+    breaks (g.K.Sink.taken c.args.out.now) (g.K.Sink.taken c.spell_text.new.out) (g.K.Sink.faults c.args.out.now) (g.K.Sink.faults c.spell_text.new.out) (entry_text c.args.entry.now) (codes "\n") c.from_residual.result c.from_residual.ensures.0
+    (c.in_err-spell_text.ensures {u = tt})
 
-pub returns-in_err-spell_asked : goal.returns-in_err-spell_asked
-returns-in_err-spell_asked g c =
-    hands_same (g.K.Sink.taken c.args.out.now) (g.K.Sink.taken c.spell_asked.new.out) (g.K.Sink.faults c.args.out.now) (g.K.Sink.faults c.spell_asked.new.out) ((front_text c.entry.inside.call.silent c.entry.inside.key c.entry.inside.call.slot ++ codes " ") ++ ((c.entry.inside.call.method ++ next_word (tree_text c.entry.inside.call.args)) ++ ((next_word (answered_text (plain_answer c.entry.inside.answer))) ++ (codes "\n")))) (call_line c.args.entry.now) c.from_residual-in_err-spell_asked.result
-    (blank_parts (front_text c.entry.inside.call.silent c.entry.inside.key c.entry.inside.call.slot) (c.entry.inside.call.method ++ next_word (tree_text c.entry.inside.call.args)) (next_word (answered_text (plain_answer c.entry.inside.answer))) (codes "\n") ∙ ap call_line c.entry.view_is)
-    (goes_on (g.K.Sink.taken c.args.out.now) (g.K.Sink.taken c.spell_front.new.out) (g.K.Sink.taken c.spell_asked.new.out) (g.K.Sink.faults c.args.out.now) (g.K.Sink.faults c.spell_front.new.out) (g.K.Sink.faults c.spell_asked.new.out) (front_text c.entry.inside.call.silent c.entry.inside.key c.entry.inside.call.slot ++ codes " ") ((c.entry.inside.call.method ++ next_word (tree_text c.entry.inside.call.args)) ++ ((next_word (answered_text (plain_answer c.entry.inside.answer))) ++ (codes "\n"))) c.from_residual-in_err-spell_asked.result
-    (c.in_ok-spell_front.ensures {u = tt})
-    (breaks (g.K.Sink.taken c.spell_front.new.out) (g.K.Sink.taken c.spell_asked.new.out) (g.K.Sink.faults c.spell_front.new.out) (g.K.Sink.faults c.spell_asked.new.out) (c.entry.inside.call.method ++ next_word (tree_text c.entry.inside.call.args)) ((next_word (answered_text (plain_answer c.entry.inside.answer))) ++ (codes "\n")) c.from_residual-in_err-spell_asked.result c.from_residual-in_err-spell_asked.ensures.0 (c.in_err-spell_asked.ensures {u = tt})))
+pub returns-in_err-spell_text-clause-short : goal.returns-in_err-spell_text-clause-short
+returns-in_err-spell_text-clause-short g c =
+    on_err c.from_residual.result
+    (short_of_more (g.K.Sink.taken c.args.out.now) (g.K.Sink.taken c.spell_text.new.out) (g.K.Sink.faults c.args.out.now) (g.K.Sink.faults c.spell_text.new.out) (entry_text c.args.entry.now) 10 [] (c.in_err-spell_text.ensures {u = tt}))
 
-pub returns-in_err-spell_answer : goal.returns-in_err-spell_answer
-returns-in_err-spell_answer g c =
-    hands_same (g.K.Sink.taken c.args.out.now) (g.K.Sink.taken c.spell_answer.new.out) (g.K.Sink.faults c.args.out.now) (g.K.Sink.faults c.spell_answer.new.out) ((front_text c.entry.inside.call.silent c.entry.inside.key c.entry.inside.call.slot ++ codes " ") ++ ((c.entry.inside.call.method ++ next_word (tree_text c.entry.inside.call.args)) ++ ((next_word (answered_text (plain_answer c.entry.inside.answer))) ++ (codes "\n")))) (call_line c.args.entry.now) c.from_residual-in_err-spell_answer.result
-    (blank_parts (front_text c.entry.inside.call.silent c.entry.inside.key c.entry.inside.call.slot) (c.entry.inside.call.method ++ next_word (tree_text c.entry.inside.call.args)) (next_word (answered_text (plain_answer c.entry.inside.answer))) (codes "\n") ∙ ap call_line c.entry.view_is)
-    (goes_on (g.K.Sink.taken c.args.out.now) (g.K.Sink.taken c.spell_front.new.out) (g.K.Sink.taken c.spell_answer.new.out) (g.K.Sink.faults c.args.out.now) (g.K.Sink.faults c.spell_front.new.out) (g.K.Sink.faults c.spell_answer.new.out) (front_text c.entry.inside.call.silent c.entry.inside.key c.entry.inside.call.slot ++ codes " ") ((c.entry.inside.call.method ++ next_word (tree_text c.entry.inside.call.args)) ++ ((next_word (answered_text (plain_answer c.entry.inside.answer))) ++ (codes "\n"))) c.from_residual-in_err-spell_answer.result
-    (c.in_ok-spell_front.ensures {u = tt})
-    (goes_on (g.K.Sink.taken c.spell_front.new.out) (g.K.Sink.taken c.spell_asked.new.out) (g.K.Sink.taken c.spell_answer.new.out) (g.K.Sink.faults c.spell_front.new.out) (g.K.Sink.faults c.spell_asked.new.out) (g.K.Sink.faults c.spell_answer.new.out) (c.entry.inside.call.method ++ next_word (tree_text c.entry.inside.call.args)) ((next_word (answered_text (plain_answer c.entry.inside.answer))) ++ (codes "\n")) c.from_residual-in_err-spell_answer.result
-    (c.in_ok-spell_asked.ensures {u = tt})
-    (breaks (g.K.Sink.taken c.spell_asked.new.out) (g.K.Sink.taken c.spell_answer.new.out) (g.K.Sink.faults c.spell_asked.new.out) (g.K.Sink.faults c.spell_answer.new.out) (next_word (answered_text (plain_answer c.entry.inside.answer))) (codes "\n") c.from_residual-in_err-spell_answer.result c.from_residual-in_err-spell_answer.ensures.0 (c.in_err-spell_answer.ensures {u = tt}))))
+pub returns-clause-handed : goal.returns-clause-handed
+returns-clause-handed g c =
+    goes_on (g.K.Sink.taken c.args.out.now) (g.K.Sink.taken c.spell_text.new.out) (g.K.Sink.taken c.end_line.new.out) (g.K.Sink.faults c.args.out.now) (g.K.Sink.faults c.spell_text.new.out) (g.K.Sink.faults c.end_line.new.out) (entry_text c.args.entry.now) (codes "\n") c.end_line.result
+    (c.in_ok-spell_text.ensures {u = tt}) c.end_line.ensures.handed
 
-pub returns : goal.returns
-returns g c =
-    hands_same (g.K.Sink.taken c.args.out.now) (g.K.Sink.taken c.hand_over.new.out) (g.K.Sink.faults c.args.out.now) (g.K.Sink.faults c.hand_over.new.out) ((front_text c.entry.inside.call.silent c.entry.inside.key c.entry.inside.call.slot ++ codes " ") ++ ((c.entry.inside.call.method ++ next_word (tree_text c.entry.inside.call.args)) ++ ((next_word (answered_text (plain_answer c.entry.inside.answer))) ++ (codes "\n")))) (call_line c.args.entry.now) c.hand_over.result
-    (blank_parts (front_text c.entry.inside.call.silent c.entry.inside.key c.entry.inside.call.slot) (c.entry.inside.call.method ++ next_word (tree_text c.entry.inside.call.args)) (next_word (answered_text (plain_answer c.entry.inside.answer))) (codes "\n") ∙ ap call_line c.entry.view_is)
-    (goes_on (g.K.Sink.taken c.args.out.now) (g.K.Sink.taken c.spell_front.new.out) (g.K.Sink.taken c.hand_over.new.out) (g.K.Sink.faults c.args.out.now) (g.K.Sink.faults c.spell_front.new.out) (g.K.Sink.faults c.hand_over.new.out) (front_text c.entry.inside.call.silent c.entry.inside.key c.entry.inside.call.slot ++ codes " ") ((c.entry.inside.call.method ++ next_word (tree_text c.entry.inside.call.args)) ++ ((next_word (answered_text (plain_answer c.entry.inside.answer))) ++ (codes "\n"))) c.hand_over.result
-    (c.in_ok-spell_front.ensures {u = tt})
-    (goes_on (g.K.Sink.taken c.spell_front.new.out) (g.K.Sink.taken c.spell_asked.new.out) (g.K.Sink.taken c.hand_over.new.out) (g.K.Sink.faults c.spell_front.new.out) (g.K.Sink.faults c.spell_asked.new.out) (g.K.Sink.faults c.hand_over.new.out) (c.entry.inside.call.method ++ next_word (tree_text c.entry.inside.call.args)) ((next_word (answered_text (plain_answer c.entry.inside.answer))) ++ (codes "\n")) c.hand_over.result
-    (c.in_ok-spell_asked.ensures {u = tt})
-    (goes_on (g.K.Sink.taken c.spell_asked.new.out) (g.K.Sink.taken c.spell_answer.new.out) (g.K.Sink.taken c.hand_over.new.out) (g.K.Sink.faults c.spell_asked.new.out) (g.K.Sink.faults c.spell_answer.new.out) (g.K.Sink.faults c.hand_over.new.out) (next_word (answered_text (plain_answer c.entry.inside.answer))) (codes "\n") c.hand_over.result
-    (c.in_ok-spell_answer.ensures {u = tt})
-    (c.hand_over.ensures))))
+pub returns-clause-short : goal.returns-clause-short
+returns-clause-short g c =
+    short_last (g.K.Sink.taken c.args.out.now) (g.K.Sink.taken c.spell_text.new.out) (g.K.Sink.taken c.end_line.new.out) (g.K.Sink.faults c.args.out.now) (g.K.Sink.faults c.spell_text.new.out) (entry_text c.args.entry.now) 10 c.end_line.result (c.in_ok-spell_text.ensures {u = tt}) c.end_line.ensures.none
