@@ -86,8 +86,8 @@ module _ (part : LoopPart) (hall : ServedHall) (workers : List Holding) (new_par
 -- What a connection's move comes to, by what is told of it.
 pub moved_steps : {E : Type 0} (max c : ℕ) (old new : Parts) (moved : Bool)
     → ConnReaches
-    → IsMachine max old → MachineMoves max (λ s. one_of_conn s c) old moved new → MoveKeeps old new → old.hall.faults ≤ new.hall.faults → IsConnStep {E = E} max c old new (Ok moved)
-moved_steps max c old new true reaches now moves kept later =
+    → IsMachine max old → MachineMoves max (λ s. one_of_conn s c) old moved new → MoveKeeps old new → new.hall.faults ≡ old.hall.faults → IsConnStep {E = E} max c old new (Ok moved)
+moved_steps max c old new true reaches now moves kept count =
     let s : CellSetting = now.0 in
     let u : AreUnderWay s old = now.2 in
     let t = moves s u.play now.1 u.tied in
@@ -97,9 +97,9 @@ moved_steps max c old new true reaches now moves kept later =
       under_way = (s, now.1, record { play = t.0; tied = t.2; counted = kept.workers ∙ u.counted; room = kept.room; slots = u.slots; max = u.max });
       less = conn_lessens s c old new u.play t.0 u.tied t.2 kept.workers (reaches s c u.play t.0 u.tied.reached t.1) t.1;
       kept = kept;
-      later = later;
+      count = count;
     }
-moved_steps max c old new false reaches now moves kept later =
+moved_steps max c old new false reaches now moves kept count =
     let s : CellSetting = now.0 in
     let u : AreUnderWay s old = now.2 in
     let t = moves s u.play now.1 u.tied in
@@ -109,7 +109,7 @@ moved_steps max c old new false reaches now moves kept later =
       under_way = (s, now.1, record { play = u.play; tied = t.1; counted = kept.workers ∙ u.counted; room = kept.room; slots = u.slots; max = u.max });
       less = stays_heavy s old new u.play u.tied t.1 kept.workers;
       kept = kept;
-      later = later;
+      count = count;
     }
 
 -- A move of the loop's part, as far as it has come.
@@ -121,7 +121,7 @@ pub part_steps : {E : Type 0} (max c : ℕ) (part : LoopPart) (hall : ServedHall
     → IsConnStep max c (record { part = part; hall = hall; workers = workers }) (record { part = new_part; hall = hall; workers = workers }) result
 part_steps max c part hall workers new_part (Ok moved) reaches now moves stays feeds room =
     moved_steps max c (before part hall workers new_part) (behind part hall workers new_part) moved reaches now (part_moves part hall workers new_part max c moved reaches moves)
-    (record { room = room; workers = refl; feeds = feeds }) (omega arith)
+    (record { room = room; workers = refl; feeds = feeds }) refl
 part_steps max c part hall workers new_part (Err fault) reaches now moves stays feeds room =
     let s : CellSetting = now.0 in
     let u : AreUnderWay s (record { part = part; hall = hall; workers = workers }) = now.2 in
@@ -132,7 +132,7 @@ part_steps max c part hall workers new_part (Err fault) reaches now moves stays 
       under_way = (s, now.1, record { play = u.play; tied = still s u.play u.tied; counted = u.counted; room = room; slots = u.slots; max = u.max });
       less = tt;
       kept = record { room = room; workers = refl; feeds = feeds };
-      later = omega arith;
+      count = refl;
     }
 
 -- a connection that isn't open has no move
@@ -203,4 +203,4 @@ pub none_steps : {E : Type 0} (max c : ℕ) (m : Parts)
     → IsMachine max m → HasNoTurn (slice_get m.part.stages.items c) → IsConnStep {E = E} max c m m (Ok false)
 none_steps max c m reaches now none =
     moved_steps max c m m false reaches now (λ s play longest tied. (no_turn_rests s c m.part play tied.loop_tied (slice_get m.part.stages.items c) refl none, tied))
-    (record { room = now.2.room; workers = refl; feeds = refl }) (omega arith)
+    (record { room = now.2.room; workers = refl; feeds = refl }) refl

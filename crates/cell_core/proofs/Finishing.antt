@@ -174,7 +174,7 @@ module _ (s : CellSetting) (script : ScriptPlan) (part : LoopPart) (workers : Li
       where
         go : (stop : RunStop) → StopsBy (HasCrew s.desk (length workers)) begun new stop → IsLoopUnderWay new.part
         go NoMemory by =
-            let now : (now : ServedPlay) × ArePlayed s new now = by s begun_play begun_crew begun_played in
+            let now : (now : ServedPlay) × ArePlayed s new now = by.0 s begun_play begun_crew begun_played in
             record { setting = s; play = now.0; tied = now.1.loop_tied; room = stops.kept.room }
         go JournalFault by =
             let f : HasFailed s begun new = by s begun_play begun_crew begun_played in
@@ -186,7 +186,7 @@ module _ (s : CellSetting) (script : ScriptPlan) (part : LoopPart) (workers : Li
       where
         go : (stop : RunStop) → StopsBy (HasCrew s.desk (length workers)) begun new stop → IsSeenRun s run
         go NoMemory by =
-            let now : (now : ServedPlay) × ArePlayed s new now = by s begun_play begun_crew begun_played in
+            let now : (now : ServedPlay) × ArePlayed s new now = by.0 s begun_play begun_crew begun_played in
             seen_led s now.0.cell run max now.1.reached.run now.1.reached.kept now.1.reached.none_left (leads s now.0.cell now.0 now.1.loop_tied refl)
             (subst (λ t. MayHave t now.0.cell.hall.journal) (sym told_is) now.1.hall_tied.told) (services_same s new now.0 now.1 ∙ sym services)
             (λ none. services ∙ services_after s new now.0 now.1)
@@ -200,3 +200,10 @@ module _ (s : CellSetting) (script : ScriptPlan) (part : LoopPart) (workers : Li
         let by : StopsBy (HasCrew s.desk (length workers)) begun new JournalFault = subst (StopsBy (HasCrew s.desk (length workers)) begun new) e stops.by in
         let f : HasFailed s begun new = by s begun_play begun_crew begun_played in
         f.torn.rose
+
+    pub stop_count : stop ≢ JournalFault → new.hall.faults ≡ hall.faults
+    stop_count other = go stop refl stops.by
+      where
+        go : (which : RunStop) → stop ≡ which → StopsBy (HasCrew s.desk (length workers)) begun new which → new.hall.faults ≡ hall.faults
+        go NoMemory is by = by.1
+        go JournalFault is by = absurd (other is)

@@ -1,5 +1,5 @@
 -- What a submit and a collect are of a machine in memory, whichever play it was tied to.
-use Rattle.std.proofs.Common.{◌≡◌, ℕ, ◌<◌, ◌≤◌, Bool, true, false, Some, List, ◌∷◌, ◌++◌, [], length, slice_get, refl, sym, ap, subst}
+use Rattle.std.proofs.Common.{◌≡◌, ℕ, ◌<◌, Bool, true, false, Some, List, ◌∷◌, ◌++◌, [], length, slice_get, refl, sym, ap, subst}
 use Rattle.streams.specs.declared.outcomes.Settled.{Settled}
 use Rattle.host_model.specs.declared.key.Key.{Key}
 use Rattle.call_rules.specs.PlainCalls.{PlainAnswer}
@@ -111,22 +111,22 @@ collect_rests part hall workers new_hall answer gives none max =
 -- A collect, all at once.
 pub outcome_steps : (old new : Parts) (moved : Bool) → OutcomeReaches
     → SomeMachine old → ((max : ℕ) → MachineMoves max one_of_outcome old moved new) → HasRoomToClose new.part → new.workers ≡ old.workers
-    → length new.part.feeds.items ≡ length old.part.feeds.items → old.hall.faults ≤ new.hall.faults → IsOutcomeStep old new moved
-outcome_steps old new true reaches now moves room workers feeds later =
+    → length new.part.feeds.items ≡ length old.part.feeds.items → new.hall.faults ≡ old.hall.faults → IsOutcomeStep old new moved
+outcome_steps old new true reaches now moves room workers feeds count =
     let s : CellSetting = now.0 in
     let t = moves s.desk.max_frame s now.1.play refl now.1.tied in
     record {
       moves = moves;
       less = outcome_lessens s old new now.1.play t.0 now.1.tied t.2 (ap length workers) (reaches s now.1.play t.0 now.1.tied.reached t.1) t.1;
       kept = record { room = room; workers = ap length workers; feeds = feeds };
-      later = later;
+      count = count;
     }
-outcome_steps old new false reaches now moves room workers feeds later =
+outcome_steps old new false reaches now moves room workers feeds count =
     let s : CellSetting = now.0 in
     let t = moves s.desk.max_frame s now.1.play refl now.1.tied in
     record {
       moves = moves;
       less = stays_heavy s old new now.1.play now.1.tied t.1 (ap length workers);
       kept = record { room = room; workers = ap length workers; feeds = feeds };
-      later = later;
+      count = count;
     }

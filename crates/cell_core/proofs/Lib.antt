@@ -8,7 +8,7 @@ pub mod Working
 pub mod Weights
 pub mod Lessening
 pub mod OutRows
-pub mod FaultsRise
+pub mod FaultCount
 pub mod Machining
 pub mod Submitting
 pub mod Outcomes

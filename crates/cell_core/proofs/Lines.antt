@@ -49,22 +49,22 @@ line_still : (one line : CellSetting → Doing) → ((s : CellSetting) (passes e
 line_still one line is s a none =
     none_comes (one s) (line s) a none (λ passes enough memory first. is s passes enough memory a ∙ ap (λ o. Some (left_by a o)) first)
 
-module _ (old new : Parts) (kept : MoveKeeps old new) (later : old.hall.faults ≤ new.hall.faults) (moved : Bool) where
+module _ (old new : Parts) (kept : MoveKeeps old new) (count : new.hall.faults ≡ old.hall.faults) (moved : Bool) where
   pub conn_line : (max c : ℕ) → MachineMoves max (λ s. one_of_conn s c) old moved new → ComesThrough (HasLongest max) (λ s. one_line s (turn_of_conn c)) old new
   conn_line max c moves =
-      move_left (HasLongest max) (λ s. one_of_conn s c) old new kept later (λ s. one_line s (turn_of_conn c)) moved moves
+      move_left (HasLongest max) (λ s. one_of_conn s c) old new kept count (λ s. one_line s (turn_of_conn c)) moved moves
       (line_left (λ s. one_of_conn s c) (λ s. one_line s (turn_of_conn c)) (λ s passes enough memory play. refl))
       (line_still (λ s. one_of_conn s c) (λ s. one_line s (turn_of_conn c)) (λ s passes enough memory play. refl))
 
   pub worker_line : (desk : DeskMeaning) (w : ℕ) → DeskMoves desk (λ s. one_of_worker s w) old moved new → ComesThrough (HasDesk desk) (λ s. one_line s (turn_of_worker w)) old new
   worker_line desk w moves =
-      move_left (HasDesk desk) (λ s. one_of_worker s w) old new kept later (λ s. one_line s (turn_of_worker w)) moved moves
+      move_left (HasDesk desk) (λ s. one_of_worker s w) old new kept count (λ s. one_line s (turn_of_worker w)) moved moves
       (line_left (λ s. one_of_worker s w) (λ s. one_line s (turn_of_worker w)) (λ s passes enough memory play. refl))
       (line_still (λ s. one_of_worker s w) (λ s. one_line s (turn_of_worker w)) (λ s passes enough memory play. refl))
 
   pub outcome_line : ((max : ℕ) → MachineMoves max one_of_outcome old moved new) → ComesThrough AnySetting (λ s. one_line s turn_of_outcome) old new
   outcome_line moves =
-      move_left AnySetting one_of_outcome old new kept later (λ s. one_line s turn_of_outcome) moved (λ s play w tied. moves s.desk.max_frame s play refl tied)
+      move_left AnySetting one_of_outcome old new kept count (λ s. one_line s turn_of_outcome) moved (λ s play w tied. moves s.desk.max_frame s play refl tied)
       (line_left one_of_outcome (λ s. one_line s turn_of_outcome) (λ s passes enough memory play. refl))
       (line_still one_of_outcome (λ s. one_line s turn_of_outcome) (λ s passes enough memory play. refl))
 
@@ -88,7 +88,7 @@ module _ (part : LoopPart) (old : Parts) (room : HasRoomToClose part) (feeds : l
   pub opening_line : (moved : Bool) → ((s : CellSetting) (one other : ServedPlay) → IsReached s one → ComesTo (one_opening s) one other → IsReachedFrom s one other)
       → LoopMoves AnySetting one_opening old.part moved part → ComesThrough AnySetting (λ s. one_line s opening) old (record { part = part; hall = old.hall; workers = old.workers })
   opening_line moved reaches moves =
-      move_left AnySetting one_opening old (record { part = part; hall = old.hall; workers = old.workers }) part_kept (omega arith) (λ s. one_line s opening) moved
+      move_left AnySetting one_opening old (record { part = part; hall = old.hall; workers = old.workers }) part_kept refl (λ s. one_line s opening) moved
       (λ s play w tied. moves_so s play tied moved (moves s play tt tied.loop_tied))
       (line_left one_opening (λ s. one_line s opening) (λ s passes enough memory play. refl)) (line_still one_opening (λ s. one_line s opening) (λ s passes enough memory play. refl))
     where
@@ -106,7 +106,7 @@ module _ (part : LoopPart) (old : Parts) (room : HasRoomToClose part) (feeds : l
   opening_stops stop is stays =
       subst (StopsMachine AnySetting old (record { part = part; hall = old.hall; workers = old.workers })) (sym is)
       (record {
-        by = λ s play w tied. (play, played_as s part old.hall old.workers old play play refl refl tied (stays s play tied.loop_tied) (refl, refl) tied.reached);
+        by = ((λ s play w tied. (play, played_as s part old.hall old.workers old play play refl refl tied (stays s play tied.loop_tied) (refl, refl) tied.reached)), refl);
         kept = part_kept;
         later = omega arith;
       })
@@ -199,7 +199,7 @@ module _ (old : Parts) (new : LoopPart) (c : ℕ) (only : IsFedOnly old.part new
               (reached_as s play (then_ play) (cell play) (admitted play) tied.reached),
         );
         kept = record { room = fed_room old.part new only room; workers = refl; feeds = has.count };
-        later = omega arith;
+        count = refl;
       }
 
   -- a piece arrives
@@ -241,9 +241,12 @@ module _ (old : Parts) (new : LoopPart) (c : ℕ) (only : IsFedOnly old.part new
   piece_stops stop is has =
       subst (StopsMachine AnySetting old (record { part = new; hall = old.hall; workers = old.workers })) (sym is)
       (record {
-        by = λ s play w tied. (
-          play,
-          played_as s new old.hall old.workers old play play refl refl tied (refed_tied s c old.part new play tied.loop_tied only.table only.tape only.stages has) (refl, refl) tied.reached,
+        by = (
+          (λ s play w tied. (
+            play,
+            played_as s new old.hall old.workers old play play refl refl tied (refed_tied s c old.part new play tied.loop_tied only.table only.tape only.stages has) (refl, refl) tied.reached,
+          )),
+          refl,
         );
         kept = record { room = fed_room old.part new only room; workers = refl; feeds = has.count };
         later = omega arith;
@@ -261,7 +264,7 @@ rest_line W old new d =
             g.2,
           );
       kept = d.kept;
-      later = d.later;
+      count = d.count;
     }
 
 -- the lines from one on

@@ -84,35 +84,35 @@ longest_of desk max same s d = ap (λ (x : DeskMeaning). x.max_frame) d ∙ sym 
 -- ---- a connection moves until it can't
 
 module _ (max c : ℕ) (old mid new : Parts) (moved more : Bool) (g : IsGoing (HasLongest max) (λ s. all_of_conn s c) (λ s. all_of_conn s c) old moved mid)
-    (kept : MoveKeeps mid new) (later : mid.hall.faults ≤ new.hall.faults) where
+    (kept : MoveKeeps mid new) (count : new.hall.faults ≡ mid.hall.faults) where
   pub conn_round : MachineMoves max (λ s. one_of_conn s c) mid more new → LeavesLess more mid new → more ≡ true → IsGoing (HasLongest max) (λ s. all_of_conn s c) (λ s. all_of_conn s c) old true new
   conn_round moves less e =
       subst (λ b. IsGoing (HasLongest max) (λ s. all_of_conn s c) (λ s. all_of_conn s c) old b new) (or_some moved)
       (goes_on (HasLongest max) (λ s. all_of_conn s c) (λ s. all_of_conn s c) (λ s. one_of_conn s c) (λ s. all_of_conn s c) old mid new moved true (λ s x y z w tied more one two. conn_goes_on s c x y z one two) g
-      (one_done (HasLongest max) (λ s. one_of_conn s c) mid new kept later more moves e (λ s a b unclosed comes. conn_counts s c a b unclosed comes) less))
+      (one_done (HasLongest max) (λ s. one_of_conn s c) mid new kept count more moves e (λ s a b unclosed comes. conn_counts s c a b unclosed comes) less))
 
   pub conn_last : MachineMoves max (λ s. one_of_conn s c) mid more new → LeavesLess more mid new → more ≡ false → IsDone (HasLongest max) (λ s. all_of_conn s c) old moved new
   conn_last moves less e =
       goes_still (HasLongest max) (λ s. all_of_conn s c) (λ s. all_of_conn s c) old mid new moved g
-      (none_done (HasLongest max) (λ s. one_of_conn s c) mid new kept later (λ s. all_of_conn s c) more moves e (λ s a none. conn_ends s c a none) less)
+      (none_done (HasLongest max) (λ s. one_of_conn s c) mid new kept count (λ s. all_of_conn s c) more moves e (λ s a none. conn_ends s c a none) less)
 
   pub conn_breaks : StaysPlayed mid new → EndsEarly (HasLongest max) old new
-  conn_breaks stays = breaks_off (HasLongest max) (λ s. all_of_conn s c) (λ s. all_of_conn s c) old mid new moved g (stays_early (HasLongest max) mid new stays kept later)
+  conn_breaks stays = breaks_off (HasLongest max) (λ s. all_of_conn s c) (λ s. all_of_conn s c) old mid new moved g (stays_early (HasLongest max) mid new stays kept count)
 
 -- ---- outcomes are collected until there is none
 
 module _ (old mid new : Parts) (moved more : Bool) (g : IsGoing AnySetting all_of_outcomes all_of_outcomes old moved mid)
-    (kept : MoveKeeps mid new) (later : mid.hall.faults ≤ new.hall.faults) (moves : (max : ℕ) → MachineMoves max one_of_outcome mid more new) (less : LeavesLess more mid new) where
+    (kept : MoveKeeps mid new) (count : new.hall.faults ≡ mid.hall.faults) (moves : (max : ℕ) → MachineMoves max one_of_outcome mid more new) (less : LeavesLess more mid new) where
   pub outcome_round : more ≡ true → IsGoing AnySetting all_of_outcomes all_of_outcomes old true new
   outcome_round e =
       subst (λ b. IsGoing AnySetting all_of_outcomes all_of_outcomes old b new) (or_some moved)
       (goes_on AnySetting all_of_outcomes all_of_outcomes one_of_outcome all_of_outcomes old mid new moved true (λ s x y z w tied more one two. outcomes_go_on s x y z one two) g
-      (one_done AnySetting one_of_outcome mid new kept later more (λ s play w tied. moves s.desk.max_frame s play refl tied) e (λ s a b unclosed comes. outcome_counts s a b unclosed comes) less))
+      (one_done AnySetting one_of_outcome mid new kept count more (λ s play w tied. moves s.desk.max_frame s play refl tied) e (λ s a b unclosed comes. outcome_counts s a b unclosed comes) less))
 
   pub outcome_last : more ≡ false → IsDone AnySetting all_of_outcomes old moved new
   outcome_last e =
       goes_still AnySetting all_of_outcomes all_of_outcomes old mid new moved g
-      (none_done AnySetting one_of_outcome mid new kept later all_of_outcomes more (λ s play w tied. moves s.desk.max_frame s play refl tied) e (λ s a none. outcomes_end s a none) less)
+      (none_done AnySetting one_of_outcome mid new kept count all_of_outcomes more (λ s play w tied. moves s.desk.max_frame s play refl tied) e (λ s a none. outcomes_end s a none) less)
 
 -- ---- each connection
 
@@ -137,7 +137,7 @@ or_none false = refl
 still_done : (max c : ℕ) (m : Parts) → ConnReaches → IsMachine max m → HasNoTurn (slice_get m.part.stages.items c) → IsDone (HasLongest max) (λ s. all_of_conn s c) m false m
 still_done max c m reaches now still =
     let steps = none_steps {E = Unit {0}} max c m reaches now still in
-    conn_last max c m m m false false (begins (HasLongest max) (λ s. all_of_conn s c) m now.2.room) steps.kept steps.later steps.moved steps.less refl
+    conn_last max c m m m false false (begins (HasLongest max) (λ s. all_of_conn s c) m now.2.room) steps.kept steps.count steps.moved steps.less refl
 
 -- those that have none are passed over
 pub conns_over : (max n : ℕ) (old mid : Parts) (moved : Bool) → ConnReaches → IsMachine max mid → (c d : ℕ) → c + d ≤ n
@@ -193,9 +193,9 @@ workers_last desk n w old new moved past g =
 -- ---- a worker moves until it has put its job
 
 module _ (desk : DeskMeaning) (n w : ℕ) (old mid new : Parts) (moved more : Bool) (g : IsGoing (HasDesk desk) (λ s. all_of_worker s 3 w) (λ s. all_of_worker s (3 - n) w) old moved mid) where
-  module _ (below : n < 3) (kept : MoveKeeps mid new) (later : mid.hall.faults ≤ new.hall.faults) (moves : DeskMoves desk (λ s. one_of_worker s w) mid more new) (less : LeavesLess more mid new) where
+  module _ (below : n < 3) (kept : MoveKeeps mid new) (count : new.hall.faults ≡ mid.hall.faults) (moves : DeskMoves desk (λ s. one_of_worker s w) mid more new) (less : LeavesLess more mid new) where
     one_is : more ≡ true → IsDone (HasDesk desk) (λ s. one_of_worker s w) mid true new
-    one_is e = one_done (HasDesk desk) (λ s. one_of_worker s w) mid new kept later more moves e (λ s a b unclosed comes. worker_counts s w a b unclosed comes) less
+    one_is e = one_done (HasDesk desk) (λ s. one_of_worker s w) mid new kept count more moves e (λ s a b unclosed comes. worker_counts s w a b unclosed comes) less
 
     one_less : suc (3 - (n + 1)) ≡ 3 - n
     one_less = omega arith
@@ -222,7 +222,7 @@ module _ (desk : DeskMeaning) (n w : ℕ) (old mid new : Parts) (moved more : Bo
     pub work_ends : more ≡ false → IsDone (HasDesk desk) (λ s. all_of_worker s 3 w) old moved new
     work_ends e =
         goes_still (HasDesk desk) (λ s. all_of_worker s 3 w) (λ s. all_of_worker s (3 - n) w) old mid new moved g
-        (none_done (HasDesk desk) (λ s. one_of_worker s w) mid new kept later (λ s. all_of_worker s (3 - n) w) more moves e
+        (none_done (HasDesk desk) (λ s. one_of_worker s w) mid new kept count (λ s. all_of_worker s (3 - n) w) more moves e
         (λ s a none. subst (λ k. ComesTo (all_of_worker s k w) a a) one_less (worker_ends s (3 - (n + 1)) w a none)) less)
 
 pub work_stops : (desk : DeskMeaning) (n w : ℕ) (old new : Parts) (moved : Bool) → 3 ≤ n → IsGoing (HasDesk desk) (λ s. all_of_worker s 3 w) (λ s. all_of_worker s (3 - n) w) old moved new
@@ -253,10 +253,10 @@ fails_so desk old new stop only f kept later = record { by = fails_by desk old n
 pub loop_stops : (W : CellSetting → Type 0) (all left : CellSetting → Doing) (old mid new : Parts) (moved : Bool) (stop : RunStop) → IsGoing W all left old moved mid → StopsMachine W mid new stop
     → StopsMachine W old new stop
 loop_stops W all left old mid new moved stop g st =
-    stops_behind W old mid new (reaches_so W all left old mid (so_far W all left old mid moved g)) g.later stop g.kept st
+    stops_behind W old mid new (reaches_so W all left old mid (so_far W all left old mid moved g)) g.count stop g.kept st
 
 pub run_stops : (W : CellSetting → Type 0) (all left : CellSetting → Doing) (old mid new : Parts) (stop : RunStop) → LoopIsRunning W all left old mid → StopsMachine W mid new stop → StopsMachine W old new stop
-run_stops W all left old mid new stop g st = stops_behind W old mid new (reaches_so W all left old mid g) g.later stop g.kept st
+run_stops W all left old mid new stop g st = stops_behind W old mid new (reaches_so W all left old mid g) g.count stop g.kept st
 
 -- one after what was done
 pub done_stops : (W : CellSetting → Type 0) (doing : CellSetting → Doing) (old mid new : Parts) (moved : Bool) (stop : RunStop) → IsDone W doing old moved mid → StopsMachine W mid new stop
@@ -264,7 +264,7 @@ pub done_stops : (W : CellSetting → Type 0) (doing : CellSetting → Doing) (o
 done_stops W doing old mid new moved stop d st =
     stops_behind W old mid new
     (λ s play w tied. let next : GoesTo (doing s) (λ next. ArePlayed s mid next × CountsMove moved play next) play = d.goes s play w tied in (next.0, next.2.0))
-    d.later stop d.kept st
+    d.count stop d.kept st
 
 -- ---- a pass, and passes
 
@@ -294,8 +294,7 @@ module _ (desk : DeskMeaning) (max : ℕ) (old one two new : Parts) (read worked
         kept = kept_both old two new (kept_both old one two reads.kept works.kept) collects.kept;
         less = less_both (read || worked) collected (steps_left old.part old.hall old.workers) (steps_left two.part two.hall two.workers) (steps_left new.part new.hall new.workers)
             (less_both read worked (steps_left old.part old.hall old.workers) (steps_left one.part one.hall one.workers) (steps_left two.part two.hall two.workers) reads.less works.less) collects.less;
-        later = let a : old.hall.faults ≤ one.hall.faults = reads.later in let b : one.hall.faults ≤ two.hall.faults = works.later in
-            let c : two.hall.faults ≤ new.hall.faults = collects.later in omega arith;
+        count = collects.count ∙ works.count ∙ reads.count;
       }
 
   pub pass_done : (moved : Bool) → moved ≡ ((read || worked) || collected) → IsDone (HasCrew desk (length old.workers)) one_pass old moved new
@@ -319,7 +318,7 @@ module _ (desk : DeskMeaning) (old mid new : Parts) (more : Bool) (g : LoopIsRun
             let p : GoesTo (one_pass s) (λ next. ArePlayed s new next × CountsMove false play next) play = d.goes s play crew tied in
             (p.0, passes_end s play p.0 p.2.1 p.1, p.2.0);
         kept = d.kept;
-        later = d.later;
+        count = d.count;
       }
 
   -- one that has moved nothing

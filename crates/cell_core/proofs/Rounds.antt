@@ -17,14 +17,14 @@ pub record IsGoing (with_setting : CellSetting → Type 0) (all left : CellSetti
       → (next : ServedPlay) × ContinuesWith (all s) (left s) play next × ArePlayed s now next × CountsMove moved play next
   pub kept : MoveKeeps old now
   pub less : LeavesLess moved old now
-  pub later : old.hall.faults ≤ now.hall.faults
+  pub count : now.hall.faults ≡ old.hall.faults
 
 -- The same, where nothing is said of moves.
 pub record LoopIsRunning (with_setting : CellSetting → Type 0) (all left : CellSetting → Doing) (old now : Parts) : Type 0 where
   pub goes : (s : CellSetting) (play : ServedPlay) → with_setting s → ArePlayed s old play
       → (next : ServedPlay) × ContinuesWith (all s) (left s) play next × ArePlayed s now next
   pub kept : MoveKeeps old now
-  pub later : old.hall.faults ≤ now.hall.faults
+  pub count : now.hall.faults ≡ old.hall.faults
 
 -- ---- what two rows of moves are, one after the other
 
@@ -63,10 +63,10 @@ rose_behind a b c l rose = grind (arith, rose)
 module _ (W : CellSetting → Type 0) (all : CellSetting → Doing) where
   pub begins : (old : Parts) → HasRoomToClose old.part → IsGoing W all all old false old
   begins old room =
-      record { goes = λ s play w tied. (play, (λ last comes. comes), tied, refl); kept = kept_none old room; less = refl; later = omega arith }
+      record { goes = λ s play w tied. (play, (λ last comes. comes), tied, refl); kept = kept_none old room; less = refl; count = refl }
 
   pub sets_out : (old : Parts) → HasRoomToClose old.part → LoopIsRunning W all all old old
-  sets_out old room = record { goes = λ s play w tied. (play, (λ last comes. comes), tied); kept = kept_none old room; later = omega arith }
+  sets_out old room = record { goes = λ s play w tied. (play, (λ last comes. comes), tied); kept = kept_none old room; count = refl }
 
   module _ (left one rest : CellSetting → Doing) (old mid new : Parts) where
     -- one more is done
@@ -85,7 +85,7 @@ module _ (W : CellSetting → Type 0) (all : CellSetting → Doing) where
               );
           kept = kept_both old mid new g.kept d.kept;
           less = less_both moved more (steps_left old.part old.hall old.workers) (steps_left mid.part mid.hall mid.workers) (steps_left new.part new.hall new.workers) g.less d.less;
-          later = let one_ : old.hall.faults ≤ mid.hall.faults = g.later in let two : mid.hall.faults ≤ new.hall.faults = d.later in omega arith;
+          count = d.count ∙ g.count;
         }
 
     -- the same, where nothing is said of moves so far
@@ -102,7 +102,7 @@ module _ (W : CellSetting → Type 0) (all : CellSetting → Doing) where
                 then_.2.0,
               );
           kept = kept_both old mid new g.kept d.kept;
-          later = let one_ : old.hall.faults ≤ mid.hall.faults = g.later in let two : mid.hall.faults ≤ new.hall.faults = d.later in omega arith;
+          count = d.count ∙ g.count;
         }
 
     -- the same, where nothing is told of moves
@@ -118,7 +118,7 @@ module _ (W : CellSetting → Type 0) (all : CellSetting → Doing) where
                 then_.2,
               );
           kept = kept_both old mid new g.kept d.kept;
-          later = let one_ : old.hall.faults ≤ mid.hall.faults = g.later in let two : mid.hall.faults ≤ new.hall.faults = d.later in omega arith;
+          count = d.count ∙ g.count;
         }
 
   module _ (left : CellSetting → Doing) where
@@ -135,7 +135,7 @@ module _ (W : CellSetting → Type 0) (all : CellSetting → Doing) where
               );
           kept = kept_both old mid new g.kept d.kept;
           less = less_both moved more (steps_left old.part old.hall old.workers) (steps_left mid.part mid.hall mid.workers) (steps_left new.part new.hall new.workers) g.less d.less;
-          later = let one_ : old.hall.faults ≤ mid.hall.faults = g.later in let two : mid.hall.faults ≤ new.hall.faults = d.later in omega arith;
+          count = d.count ∙ g.count;
         }
 
     -- it is done, and nothing moved
@@ -151,7 +151,7 @@ module _ (W : CellSetting → Type 0) (all : CellSetting → Doing) where
               (now.0, now.1 now.0 (none s now.0 w), (now.2, now.3));
           kept = g.kept;
           less = g.less;
-          later = g.later;
+          count = g.count;
         }
 
     -- the same where nothing is said of moves
@@ -163,7 +163,7 @@ module _ (W : CellSetting → Type 0) (all : CellSetting → Doing) where
               let then_ : GoesTo (left s) (ArePlayed s new) now.0 = d.goes s now.0 w now.2 in
               (then_.0, now.1 then_.0 then_.1, then_.2);
           kept = kept_both old mid new g.kept d.kept;
-          later = let one_ : old.hall.faults ≤ mid.hall.faults = g.later in let two : mid.hall.faults ≤ new.hall.faults = d.later in omega arith;
+          count = d.count ∙ g.count;
         }
 
     -- what is reached so far, and then where it breaks off
@@ -173,7 +173,7 @@ module _ (W : CellSetting → Type 0) (all : CellSetting → Doing) where
           reached = λ s play w tied. let now : (next : ServedPlay) × ContinuesWith (all s) (left s) play next × ArePlayed s mid next × CountsMove moved play next = g.goes s play w tied in
               d.reached s now.0 w now.2;
           kept = kept_both old mid new g.kept d.kept;
-          later = let one_ : old.hall.faults ≤ mid.hall.faults = g.later in let two : mid.hall.faults ≤ new.hall.faults = d.later in omega arith;
+          count = d.count ∙ g.count;
         }
 
     -- a play that the machine is tied to now, whichever it was tied to
@@ -183,7 +183,7 @@ module _ (W : CellSetting → Type 0) (all : CellSetting → Doing) where
           goes = λ s play w tied. let next : (next : ServedPlay) × ContinuesWith (all s) (left s) play next × ArePlayed s now next × CountsMove moved play next = g.goes s play w tied in
               (next.0, next.1, next.2);
           kept = g.kept;
-          later = g.later;
+          count = g.count;
         }
 
 -- a play that the machine is tied to now is reached, whichever it was tied to
@@ -208,24 +208,27 @@ failed_behind s old mid new later f =
     }
 
 -- a run that stops after what was done
-module _ (W : CellSetting → Type 0) (old mid new : Parts) (reaches : StaysReached W old mid) (later : old.hall.faults ≤ mid.hall.faults) where
+module _ (W : CellSetting → Type 0) (old mid new : Parts) (reaches : StaysReached W old mid) (count : mid.hall.faults ≡ old.hall.faults) where
   by_behind : (stop : RunStop) → StopsBy W mid new stop → StopsBy W old new stop
-  by_behind NoMemory by = λ s play w tied. let now : (now : ServedPlay) × ArePlayed s mid now = reaches s play w tied in by s now.0 w now.1
+  by_behind NoMemory by = (
+    (λ s play w tied. let now : (now : ServedPlay) × ArePlayed s mid now = reaches s play w tied in by.0 s now.0 w now.1),
+    by.1 ∙ count,
+  )
   by_behind JournalFault by = λ s play w tied.
       let now : (now : ServedPlay) × ArePlayed s mid now = reaches s play w tied in
-      failed_behind s old mid new later (by s now.0 w now.1)
+      failed_behind s old mid new (let same : mid.hall.faults ≡ old.hall.faults = count in omega arith) (by s now.0 w now.1)
 
   pub stops_behind : (stop : RunStop) → MoveKeeps old mid → StopsMachine W mid new stop → StopsMachine W old new stop
   stops_behind stop kept st =
       record {
         by = by_behind stop st.by;
         kept = kept_both old mid new kept st.kept;
-        later = let one_ : old.hall.faults ≤ mid.hall.faults = later in let two : mid.hall.faults ≤ new.hall.faults = st.later in omega arith;
+        later = let one_ : mid.hall.faults ≡ old.hall.faults = count in let two : mid.hall.faults ≤ new.hall.faults = st.later in omega arith;
       }
 
 -- one for want of memory
 pub early_stops : (W : CellSetting → Type 0) (old new : Parts) (stop : RunStop) → stop ≡ NoMemory → EndsEarly W old new → StopsMachine W old new stop
-early_stops W old new stop is e = subst (StopsMachine W old new) (sym is) (record { by = e.reached; kept = e.kept; later = e.later })
+early_stops W old new stop is e = subst (StopsMachine W old new) (sym is) (record { by = (e.reached, e.count); kept = e.kept; later = let same : new.hall.faults ≡ old.hall.faults = e.count in omega arith })
 
 -- what is done is another thing too
 pub done_as : (W : CellSetting → Type 0) (one left : CellSetting → Doing) (old new : Parts) (moved : Bool)
@@ -237,22 +240,22 @@ done_as W one left old new moved also d =
           (then_.0, also s play then_.0 w then_.2.0 then_.1, then_.2);
       kept = d.kept;
       less = d.less;
-      later = d.later;
+      count = d.count;
     }
 
 -- what holds for any such setting holds for fewer
 module _ (W V : CellSetting → Type 0) (narrow : (s : CellSetting) → V s → W s) where
   pub narrowed_done : (doing : CellSetting → Doing) (old new : Parts) (moved : Bool) → IsDone W doing old moved new → IsDone V doing old moved new
-  narrowed_done doing old new moved d = record { goes = λ s play v tied. d.goes s play (narrow s v) tied; kept = d.kept; less = d.less; later = d.later }
+  narrowed_done doing old new moved d = record { goes = λ s play v tied. d.goes s play (narrow s v) tied; kept = d.kept; less = d.less; count = d.count }
 
   pub narrowed_through : (doing : CellSetting → Doing) (old new : Parts) → ComesThrough W doing old new → ComesThrough V doing old new
-  narrowed_through doing old new d = record { goes = λ s play v tied. d.goes s play (narrow s v) tied; kept = d.kept; later = d.later }
+  narrowed_through doing old new d = record { goes = λ s play v tied. d.goes s play (narrow s v) tied; kept = d.kept; count = d.count }
 
   pub narrowed_early : (old new : Parts) → EndsEarly W old new → EndsEarly V old new
-  narrowed_early old new e = record { reached = λ s play v tied. e.reached s play (narrow s v) tied; kept = e.kept; later = e.later }
+  narrowed_early old new e = record { reached = λ s play v tied. e.reached s play (narrow s v) tied; kept = e.kept; count = e.count }
 
   pub narrowed_stop : (old new : Parts) (stop : RunStop) → StopsMachine W old new stop → StopsMachine V old new stop
-  narrowed_stop old new NoMemory st = record { by = λ s play v tied. st.by s play (narrow s v) tied; kept = st.kept; later = st.later }
+  narrowed_stop old new NoMemory st = record { by = ((λ s play v tied. st.by.0 s play (narrow s v) tied), st.by.1); kept = st.kept; later = st.later }
   narrowed_stop old new JournalFault st = record { by = λ s play v tied. st.by s play (narrow s v) tied; kept = st.kept; later = st.later }
 
 -- ---- a machine that is under way goes on
@@ -267,7 +270,7 @@ under_way_on s old now u kept next tied =
 pub hall_open : (s : CellSetting) (now : Parts) (play : ServedPlay) → ArePlayed s now play → play.cell.hall.closed ≡ false
 hall_open s now play tied = sym (ap (λ (h : HallInCell). h.closed) tied.hall_tied.same) ∙ tied.hall_tied.unclosed
 
-module _ (W : CellSetting → Type 0) (one : CellSetting → Doing) (old new : Parts) (kept : MoveKeeps old new) (later : old.hall.faults ≤ new.hall.faults) where
+module _ (W : CellSetting → Type 0) (one : CellSetting → Doing) (old new : Parts) (kept : MoveKeeps old new) (count : new.hall.faults ≡ old.hall.faults) where
   pub one_done : (moved : Bool) → ((s : CellSetting) (play : ServedPlay) → W s → ArePlayed s old play → GoesOrStays (one s) (ArePlayed s new) play moved) → moved ≡ true
       → ((s : CellSetting) (a b : ServedPlay) → a.cell.hall.closed ≡ false → ComesTo (one s) a b → b.moves ≡ suc a.moves) → LeavesLess moved old new → IsDone W one old true new
   one_done true moves e counts less =
@@ -278,7 +281,7 @@ module _ (W : CellSetting → Type 0) (one : CellSetting → Doing) (old new : P
             (m.0, m.1, (m.2, omega arith));
         kept = kept;
         less = less;
-        later = later;
+        count = count;
       }
   one_done false moves e counts less = absurd (false≢true e)
 
@@ -290,7 +293,7 @@ module _ (W : CellSetting → Type 0) (one : CellSetting → Doing) (old new : P
         goes = λ s play w tied. let m : HasNoMove (one s) play × ArePlayed s new play = moves s play w tied in (play, ends s play m.0, (m.1, refl));
         kept = kept;
         less = less;
-        later = later;
+        count = count;
       }
   none_done left true moves e ends less = absurd (true≢false e)
 
@@ -299,11 +302,11 @@ module _ (W : CellSetting → Type 0) (one : CellSetting → Doing) (old new : P
       → ((s : CellSetting) (a b : ServedPlay) → ComesTo (one s) a b → ComesTo (line s) a b) → ((s : CellSetting) (a : ServedPlay) → HasNoMove (one s) a → ComesTo (line s) a a)
       → ComesThrough W line old new
   move_left line true moves goes ends =
-      record { goes = λ s play w tied. let m : GoesTo (one s) (ArePlayed s new) play = moves s play w tied in (m.0, goes s play m.0 m.1, m.2); kept = kept; later = later }
+      record { goes = λ s play w tied. let m : GoesTo (one s) (ArePlayed s new) play = moves s play w tied in (m.0, goes s play m.0 m.1, m.2); kept = kept; count = count }
   move_left line false moves goes ends =
-      record { goes = λ s play w tied. let m : HasNoMove (one s) play × ArePlayed s new play = moves s play w tied in (play, ends s play m.0, m.1); kept = kept; later = later }
+      record { goes = λ s play w tied. let m : HasNoMove (one s) play × ArePlayed s new play = moves s play w tied in (play, ends s play m.0, m.1); kept = kept; count = count }
 
 -- a move that breaks off leaves the machine tied to what it was tied to
 pub stays_early : (W : CellSetting → Type 0) (old new : Parts) → ((s : CellSetting) (play : ServedPlay) → ArePlayed s old play → ArePlayed s new play) → MoveKeeps old new
-    → old.hall.faults ≤ new.hall.faults → EndsEarly W old new
-stays_early W old new stays kept later = record { reached = λ s play w tied. (play, stays s play tied); kept = kept; later = later }
+    → new.hall.faults ≡ old.hall.faults → EndsEarly W old new
+stays_early W old new stays kept count = record { reached = λ s play w tied. (play, stays s play tied); kept = kept; count = count }

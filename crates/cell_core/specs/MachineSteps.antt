@@ -1,5 +1,5 @@
 -- What a connection's move of a machine comes to, and what a collect does, all at once.
-use Rattle.std.specs.Prelude.{ℕ, ◌≤◌, Bool, Option, None, Some, Result, IfOk, OnErr}
+use Rattle.std.specs.Prelude.{◌≡◌, ℕ, Bool, Option, None, Some, Result, IfOk, OnErr}
 use Rattle.cell_loop.specs.declared.loop_part.CellStage.{CellStage}
 use Rattle.cell_loop.specs.declared.loop_part.CellStage.TheVariants.{Asked, Over}
 use Rattle.cell_loop.specs.Moving.{one_of_conn, one_of_outcome}
@@ -13,18 +13,19 @@ HasNoTurn (Some Asked) = Unit {0}
 HasNoTurn (Some (Over cause)) = Unit {0}
 HasNoTurn (Some _) = ⊥
 
--- It has moved or it hasn't, as each play that the machine was tied to; and it is between two moves, with less to do where it has moved.
+-- It has moved or it hasn't, as each play that the machine was tied to; and it is between two moves, with less to do where it has moved, and no fault
+-- of the journal is counted.
 pub record IsConnStep {E : Type 0} (max c : ℕ) (old new : Parts) (result : Result Bool E) : Type 0 where
   pub moved : IfOk result (λ moved. MachineMoves max (λ s. one_of_conn s c) old moved new)
   pub err : OnErr result (StaysPlayed old new)
   pub under_way : IsMachine max new
   pub less : IfOk result (λ moved. LeavesLess moved old new)
   pub kept : MoveKeeps old new
-  pub later : old.hall.faults ≤ new.hall.faults
+  pub count : new.hall.faults ≡ old.hall.faults
 
 -- The same is so of a collect.
 pub record IsOutcomeStep (old new : Parts) (moved : Bool) : Type 0 where
   pub moves : (max : ℕ) → MachineMoves max one_of_outcome old moved new
   pub less : LeavesLess moved old new
   pub kept : MoveKeeps old new
-  pub later : old.hall.faults ≤ new.hall.faults
+  pub count : new.hall.faults ≡ old.hall.faults

@@ -92,23 +92,23 @@ MachineGoes with_setting doing old moved new =
     (s : CellSetting) (play : ServedPlay) → with_setting s → ArePlayed s old play
     → GoesTo (doing s) (λ next. ArePlayed s new next × CountsMove moved play next) play
 
--- All of this is done with the machine: it keeps what each move keeps, and leaves less to be done where it moved.
+-- All of this is done with the machine: it keeps what each move keeps, leaves less to be done where it moved, and counts no fault of the journal.
 pub record IsDone (with_setting : CellSetting → Type 0) (doing : CellSetting → Doing) (old : Parts) (moved : Bool) (new : Parts) : Type 0 where
   pub goes : MachineGoes with_setting doing old moved new
   pub kept : MoveKeeps old new
   pub less : LeavesLess moved old new
-  pub later : old.hall.faults ≤ new.hall.faults
+  pub count : new.hall.faults ≡ old.hall.faults
 
 -- Whichever play the machine was tied to, with such a setting: it is tied to one that is reached.
 abbrev pub StaysReached : (CellSetting → Type 0) → Parts → Parts → Type 0
 StaysReached with_setting old new =
     (s : CellSetting) (play : ServedPlay) → with_setting s → ArePlayed s old play → (now : ServedPlay) × ArePlayed s new now
 
--- What is done with it breaks off, for want of memory.
+-- What is done with it breaks off, for want of memory, and no fault was counted.
 pub record EndsEarly (with_setting : CellSetting → Type 0) (old new : Parts) : Type 0 where
   pub reached : StaysReached with_setting old new
   pub kept : MoveKeeps old new
-  pub later : old.hall.faults ≤ new.hall.faults
+  pub count : new.hall.faults ≡ old.hall.faults
 
 -- the desk of a setting is this
 abbrev pub HasDesk : DeskMeaning → CellSetting → Type 0
@@ -118,9 +118,9 @@ HasDesk desk s = s.desk ≡ desk
 abbrev pub HasCrew : DeskMeaning → ℕ → CellSetting → Type 0
 HasCrew desk count s = (s.desk ≡ desk) × (workers_among s.workers ≡ count)
 
--- A run stops: for want of memory, where it is tied to a play that is reached; or since the journal has failed.
+-- A run stops: for want of memory, where it is tied to a play that is reached and no fault was counted; or since the journal has failed.
 abbrev pub StopsBy : (CellSetting → Type 0) → Parts → Parts → RunStop → Type 0
-StopsBy with_setting old new NoMemory = StaysReached with_setting old new
+StopsBy with_setting old new NoMemory = StaysReached with_setting old new × (new.hall.faults ≡ old.hall.faults)
 StopsBy with_setting old new JournalFault = (s : CellSetting) (play : ServedPlay) → with_setting s → ArePlayed s old play → HasFailed s old new
 
 -- It stops so, and keeps what each move keeps.
@@ -129,11 +129,11 @@ pub record StopsMachine (with_setting : CellSetting → Type 0) (old new : Parts
   pub kept : MoveKeeps old new
   pub later : old.hall.faults ≤ new.hall.faults
 
--- Whichever play the machine was tied to, with such a setting: all of this is done with it, and what each move keeps is kept.
+-- Whichever play the machine was tied to, with such a setting: all of this is done with it, what each move keeps is kept, and no fault is counted.
 pub record ComesThrough (with_setting : CellSetting → Type 0) (doing : CellSetting → Doing) (old new : Parts) : Type 0 where
   pub goes : (s : CellSetting) (play : ServedPlay) → with_setting s → ArePlayed s old play → GoesTo (doing s) (ArePlayed s new) play
   pub kept : MoveKeeps old new
-  pub later : old.hall.faults ≤ new.hall.faults
+  pub count : new.hall.faults ≡ old.hall.faults
 
 -- A line that a machine with so many feeds and so many workers may do: it brings a piece of a byte at least, or an end, to a feed that there is; or it moves a
 -- worker that there is.

@@ -1,6 +1,6 @@
 //! The machine: the loop's part, the hall and the workers, and their moves.
 
-ghost use Rattle.std.specs.Prelude.{◌≡◌, ℕ, ◌<◌, ◌≤◌, true, Some, length, slice_get, IfOk, IfErr, OnErr, MatchOption};
+ghost use Rattle.std.specs.Prelude.{◌≡◌, ℕ, ◌<◌, ◌≤◌, true, Some, length, slice_get, IfOk, IfErr, OnOk, OnErr, MatchOption};
 ghost use Rattle.machine_model.specs.HallRule.{outcome};
 ghost use Rattle.hall_core.specs.Asked.{answer_of};
 ghost use Rattle.cell_core.specs.MachineSteps.{IsConnStep, IsOutcomeStep};
@@ -46,7 +46,7 @@ impl<'a, H: Handler, J: Journal> Machine<'a, H, J> {
         ensures under_way { IsMachine max_frame (parts_of self.new) }
         ensures less { IfOk result (λ moved. LeavesLess moved (parts_of self.old) (parts_of self.new)) }
         ensures kept { MoveKeeps (parts_of self.old) (parts_of self.new) }
-        ensures later { self.old.hall.faults ≤ self.new.hall.faults }
+        ensures count { self.new.hall.faults ≡ self.old.hall.faults }
     {
         self.conn_step(alloc, c, max_frame)
     }
@@ -76,7 +76,7 @@ impl<'a, H: Handler, J: Journal> Machine<'a, H, J> {
         requires whole { slice_get self.old.part.stages.items c ≡ Some Whole }
         ensures moved { (max : ℕ) → MachineMoves max (λ s. one_of_conn s c) (parts_of self.old) true (parts_of self.new) }
         ensures kept { MoveKeeps (parts_of self.old) (parts_of self.new) }
-        ensures later { self.old.hall.faults ≤ self.new.hall.faults }
+        ensures count { self.new.hall.faults ≡ self.old.hall.faults }
     {
         moves_are_reached();
         let (i, payload) = self.part.give(c);
@@ -99,6 +99,7 @@ impl<'a, H: Handler, J: Journal> Machine<'a, H, J> {
         ensures only { IfErr result (λ stop. stop ≡ JournalFault) }
         ensures less { IfOk result (λ moved. LeavesLess moved (parts_of self.old) (parts_of self.new)) }
         ensures kept { MoveKeeps (parts_of self.old) (parts_of self.new) }
+        ensures count { OnOk result (self.new.hall.faults ≡ self.old.hall.faults) }
         ensures later { self.old.hall.faults ≤ self.new.hall.faults }
     {
         moves_are_reached();
@@ -115,7 +116,7 @@ impl<'a, H: Handler, J: Journal> Machine<'a, H, J> {
         ensures moved { (max : ℕ) → MachineMoves max one_of_outcome (parts_of self.old) result (parts_of self.new) }
         ensures less { LeavesLess result (parts_of self.old) (parts_of self.new) }
         ensures kept { MoveKeeps (parts_of self.old) (parts_of self.new) }
-        ensures later { self.old.hall.faults ≤ self.new.hall.faults }
+        ensures count { self.new.hall.faults ≡ self.old.hall.faults }
     {
         self.collect_step()
     }

@@ -86,6 +86,7 @@ pub fn rehearse<D: Desk, H: Handler, J: Journal>(
     ensures outs_or_none { AreWrittenOrNone (length result.ends) result.tape result.outs }
     ensures no_net { result.outcome ≢ NetFault }
     ensures fault { result.outcome ≡ JournalFault → Rose (J.faults journal) (J.faults result.journal) }
+    ensures kept { result.outcome ≢ JournalFault → J.faults result.journal ≡ J.faults journal }
     ensures later { J.faults journal ≤ J.faults result.journal }
 {
     a_rehearsal_is_whole();
@@ -139,6 +140,7 @@ fn outcome_of(stop: RunStop) -> Outcome
     ensures all { result ≢ All }
     ensures no_net { result ≢ NetFault }
     ensures fault { result ≡ JournalFault → stop ≡ Broken }
+    ensures broken { stop ≡ Broken → result ≡ JournalFault }
 {
     match stop {
         RunStop::JournalFault => Outcome::JournalFault,
@@ -161,6 +163,7 @@ fn stopped<'a, H: Handler, J: Journal>(
     ensures all { result.outcome ≢ All }
     ensures no_net { result.outcome ≢ NetFault }
     ensures fault { result.outcome ≡ JournalFault → stop ≡ Broken }
+    ensures broken { stop ≡ Broken → result.outcome ≡ JournalFault }
     ensures outs { AreWrittenOrNone (length result.ends) result.tape result.outs }
 {
     let mut machine = machine;
@@ -184,6 +187,7 @@ fn finished<'a, H: Handler, J: Journal>(
     ensures outcome { result.outcome ≡ All → outcome ≡ All }
     ensures net { result.outcome ≡ NetFault → outcome ≡ NetFault }
     ensures fault { result.outcome ≡ JournalFault → outcome ≡ JournalFault }
+    ensures broken { outcome ≡ JournalFault → result.outcome ≡ JournalFault }
     ensures written { AreWrittenOrNone (length machine.entry.part.stages.items) machine.entry.part.tape.items result.outs }
     ensures outs { result.outcome ≡ All → AreWritten (length machine.entry.part.stages.items) machine.entry.part.tape.items result.outs }
 {
@@ -214,6 +218,7 @@ fn without_memory(outcome: Outcome) -> Outcome
     ensures all { result ≢ All }
     ensures net { result ≡ NetFault → outcome ≡ NetFault }
     ensures fault { result ≡ JournalFault → outcome ≡ JournalFault }
+    ensures broken { outcome ≡ JournalFault → result ≡ JournalFault }
 {
     match outcome {
         Outcome::All => Outcome::NoMemory,

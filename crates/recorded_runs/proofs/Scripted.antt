@@ -1,10 +1,10 @@
 -- A run in memory, as a run of a script.
-use Rattle.std.proofs.Common.{◌≡◌, ◌<◌, ◌^◌, List, ◌++◌, Some, sym, subst}
+use Rattle.std.proofs.Common.{◌≡◌, ◌<◌, ◌≤◌, ◌^◌, Option, List, [], ◌++◌, Some, refl, sym, subst, arith}
 use Rattle.streams.specs.declared.marks.Mark.{Mark}
 use Rattle.host_model.specs.DeskRules.{DeskRules}
 use Rattle.host_model.specs.Headline.{Headline}
 use Rattle.host_model.proofs.Runs as host
-use Rattle.call_rules.specs.Desks.{desk_rules}
+use Rattle.call_rules.specs.Desks.{longest_payload, desk_rules}
 use Rattle.call_rules.specs.PlainCalls.{PlainCall, PlainAnswer}
 use Rattle.call_rules.specs.Entries.{CallEntry}
 use Rattle.call_rules.specs.Handling.{handler_rules}
@@ -19,7 +19,8 @@ use Rattle.script_model.proofs.FedEnds.{each_ends}
 use Rattle.cell_loop.specs.Settings.{CellSetting}
 use Rattle.cell_loop.specs.Stops.{stops_of}
 use Rattle.cell_core.specs.Rehearsed.{SeenRun, IsSeenRun, IsSeenRehearsal}
-use Rattle.recorded_runs.specs.Answered.{Answering, IsRunOfScript}
+use Rattle.cell_core.proofs.Finishing.{nothing_seen}
+use Rattle.recorded_runs.specs.Answered.{Answering, IsRunOfScript, TellsSomeRun}
 
 -- what it is run with
 abbrev pub setting_of : Answering → CellSetting
@@ -53,4 +54,23 @@ ran_script a script run entries small told seen rehearsal =
       ends = λ c h. each_ends (desk_rules a.desk) handler_rules a.services a.budget script run.tape entries run.causes headline fed rehearsal.none_stopped c h;
       determined = λ none. subst (λ (es : List CallEntry). IsRehearsedTo (desk_rules a.desk) handler_rules a.services always_ample a.budget a.workers script 0 run.tape es run.causes)
           (sym same) (rehearsal.with_ample none);
+    }
+
+-- Whatever a run in memory has come to, a journal that tells these entries tells those of a run.
+pub tells_run : (a : Answering) (run : SeenRun) (entries : List CallEntry) → a.desk.max_frame < 2 ^ 31 → run.told ≡ Some entries → IsSeenRun (setting_of a) run
+    → TellsSomeRun a run.told
+tells_run a run entries small told seen =
+    record { tape = run.tape; journal = entries; causes = run.causes; told_so = told; headline = meets_headline a run entries small told seen }
+
+-- one that tells none does, since a run may have no connection
+pub tells_none : (a : Answering) (told : Option (List CallEntry)) → a.desk.max_frame ≤ longest_payload → told ≡ Some [] → TellsSomeRun a told
+tells_none a told max is =
+    let run : SeenRun = record { tape = []; causes = []; told = Some []; services = a.services; faults_before = 0; faults = 0 } in
+    let small : a.desk.max_frame < 2 ^ 31 = omega arith in
+    record {
+      tape = [];
+      journal = [];
+      causes = [];
+      told_so = is;
+      headline = meets_headline a run [] small refl (nothing_seen (setting_of a) (Some []) run max refl refl refl refl refl);
     }

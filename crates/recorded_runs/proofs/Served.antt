@@ -6,6 +6,7 @@ use Rattle.std.proofs.lemmas.Grind.{flat_map-append}
 use Rattle.streams.specs.Cause.{Rose}
 use Rattle.outside.specs.LinksState.{LinksState}
 use Rattle.host_model.specs.Marks.{marks_of, read_by, input}
+use Rattle.host_model.specs.Headline.{Headline}
 use Rattle.host_model.proofs.Filters.{marks_append}
 use Rattle.conn_table.specs.declared.run_limits.Outcome.TheVariants as outcomes
 use Rattle.call_rules.specs.Entries.{CallEntry}
@@ -26,7 +27,7 @@ use Rattle.script_links.proofs.FedByLinks.{fed}
 use Rattle.host_loop.specs.Lengths.{AreLengths, transfer_of}
 use Rattle.host_loop.specs.Rests.{AreNotedRests}
 use Rattle.host_loop.specs.Served.{ServerSetting, ServedRun, IsServed, ComesOutBy}
-use Rattle.recorded_runs.specs.Answered.{Answering}
+use Rattle.recorded_runs.specs.Answered.{Answering, TellsSomeRun}
 use Rattle.recorded_runs.specs.ServedScripts.{IsServedScript, setting_of}
 use Rattle.recorded_runs.proofs.Pieces.{pieces_are, bytes_begun}
 use Rattle.recorded_runs.proofs.Lending.{counted_alike, rested, reads_so, writes_so}
@@ -103,3 +104,19 @@ ran a script before links run journal small served all is told own plan follow =
 -- The journal's count of faults rose, where it failed.
 pub journal_rose : (s : ServerSetting) (run : ServedRun) → IsServed s run → run.outcome ≡ outcomes.JournalFault → Rose run.faults_before run.faults
 journal_rose s run served is = let comes : ComesOutBy run outcomes.JournalFault = subst (ComesOutBy run) is served.comes_out in comes.1
+
+-- It stays where all is over.
+pub journal_stays : (s : ServerSetting) (run : ServedRun) → IsServed s run → run.outcome ≡ outcomes.All → run.faults ≡ run.faults_before
+journal_stays s run served is = let comes : ComesOutBy run outcomes.All = subst (ComesOutBy run) is served.comes_out in served.kept comes.1
+
+-- Whatever a run has come to, a journal that tells these entries tells those of a run.
+pub tells_served : (a : Answering) (run : ServedRun) (entries : List CallEntry) → IsServed (setting_of a) run → run.told ≡ Some entries → TellsSomeRun a run.told
+tells_served a run entries served told =
+    let same : entries ≡ served.journal = subst (λ o. MayHave o served.journal) told served.journal_told in
+    record {
+      tape = served.tape;
+      journal = entries;
+      causes = run.causes;
+      told_so = told;
+      headline = subst (λ (es : List CallEntry). Headline (desk_rules a.desk) handler_rules a.services served.tape es run.causes) (sym same) served.headline;
+    }

@@ -1,5 +1,5 @@
 -- What an answered recording says of its input and its output.
-use Rattle.std.specs.Prelude.{◌≡◌, ◌≢◌, ℕ, ◌<◌, true, List, ◌++◌, Some, Result, slice_get}
+use Rattle.std.specs.Prelude.{◌≡◌, ◌≢◌, ℕ, ◌<◌, true, List, ◌++◌, Option, Some, Result, slice_get}
 use Rattle.streams.specs.declared.marks.Mark.{Mark}
 use Rattle.host_model.specs.declared.cause.EndCause.{EndCause}
 use Rattle.host_model.specs.declared.cause.EndCause.TheVariants.{Stopped, NoMemory}
@@ -40,6 +40,14 @@ pub record IsRunOfScript (a : Answering) (script : ScriptPlan) (tape : List Mark
   pub ends : (c : ℕ) → c < openings script.lines → EndsByItsPieces (desk_rules a.desk) script causes c
   pub determined : HasNone NoMemory causes
       → IsRehearsedTo (desk_rules a.desk) handler_rules a.services always_ample a.budget a.workers script 0 tape journal causes
+
+-- A journal tells the entries of a run at this desk, by the services from the memories that they had: with some tape and some causes they meet the headline.
+pub record TellsSomeRun (a : Answering) (told : Option (List CallEntry)) : Type 0 where
+  pub tape : List Mark
+  pub journal : List CallEntry
+  pub causes : List EndCause
+  pub told_so : told ≡ Some journal
+  pub headline : Headline (desk_rules a.desk) handler_rules a.services tape journal causes
 
 -- the text is the report of a run of the script
 abbrev pub ReportsScript : Answering → ScriptPlan → List ℕ → Type 0

@@ -48,6 +48,25 @@ module _ (script_in : ScriptReading) where
 abbrev pub ScriptRuns : Type 1
 ScriptRuns = ScriptPlan → List Mark → List CallEntry → List EndCause → Type 0
 
+module _ (told : Option (List CallEntry)) (IsRunOf : ScriptRuns) where
+  -- a run of a script, whose entries are those that a journal tells
+  pub record IsToldRun (script : ScriptPlan) (tape : List Mark) (journal : List CallEntry) (causes : List EndCause) : Type 0 where
+    pub run : IsRunOf script tape journal causes
+    pub told_so : told ≡ Some journal
+
+  -- a journal tells the entries of a run of this script
+  pub record TellsRunOf (script : ScriptPlan) : Type 0 where
+    pub tape : List Mark
+    pub journal : List CallEntry
+    pub causes : List EndCause
+    pub run : IsToldRun script tape journal causes
+
+-- the fault says that no script was read
+abbrev pub IsOfInput : ServingFault → Type 0
+IsOfInput (faults.NoScript fault) = ⊤
+IsOfInput faults.ReadFault = ⊤
+IsOfInput _ = ⊥
+
 module _ (IsRunOf : ScriptRuns) (line : CallEntry → List ℕ) where
   -- the text is the report of a run of the script
   pub record ReportsRunOf (script : ScriptPlan) (text : List ℕ) : Type 0 where

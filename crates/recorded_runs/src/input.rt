@@ -1,6 +1,6 @@
 //! The program's input, read as a whole, and as a script.
 
-ghost use Rattle.std.specs.Prelude.{◌≡◌, ℕ, ◌<◌, ◌≤◌, length, Err, MatchResult, IfOk, OnOk};
+ghost use Rattle.std.specs.Prelude.{◌≡◌, ◌≢◌, ℕ, ◌<◌, ◌≤◌, length, Err, MatchResult, IfOk};
 ghost use Rattle.streams.specs.Cause.{Rose};
 ghost use Rattle.streams.specs.Content.{told_before, IsSpent};
 ghost use Rattle.script_text.specs.Reading.{script_of_text};
@@ -45,7 +45,8 @@ impl From<Failed> for InputError {
 ///
 /// # Errors
 ///
-/// NoScript comes exactly where the input is none, with its first fault; ReadFault only where the count of faults rose; NoMemory may come too.
+/// NoScript comes exactly where the input is none, with its first fault; ReadFault only where the count of faults rose, which is as before with any other
+/// result; NoMemory may come too.
 pub fn read_input<S: Source>(
     alloc: Global,
     input: &mut S,
@@ -58,7 +59,7 @@ pub fn read_input<S: Source>(
         (λ fault. EndsReading (script_of_text workers schedule) fault (S.left input.old)) }
     ensures moves { IfOk result (λ script. MovesItsWorkers workers script) }
     ensures fault { result ≡ Err ServingFault.ReadFault → Rose (S.faults input.old) (S.faults input.new) }
-    ensures kept { OnOk result (S.faults input.new ≡ S.faults input.old) }
+    ensures kept { result ≢ Err ServingFault.ReadFault → S.faults input.new ≡ S.faults input.old }
 {
     scripts_are_sound();
     let text = read_whole(alloc, input)?;
@@ -72,7 +73,7 @@ fn read_whole<S: Source>(alloc: Global, source: &mut S) -> Result<Vec<u8>, Input
     ensures whole { IfOk result (λ text. length text.items ≤ longest_script → IsSpent (S.left source.new)) }
     ensures later { S.faults source.old ≤ S.faults source.new }
     ensures failed { result ≡ Err InputError.Failed → Rose (S.faults source.old) (S.faults source.new) }
-    ensures kept { OnOk result (S.faults source.new ≡ S.faults source.old) }
+    ensures kept { result ≢ Err InputError.Failed → S.faults source.new ≡ S.faults source.old }
 {
     let mut room = make_room(alloc)?;
     read_through(alloc, source, room.as_mut_slice())
@@ -96,7 +97,7 @@ fn read_through<S: Source>(
     ensures whole { IfOk result (λ text. length text.items ≤ longest_script → IsSpent (S.left source.new)) }
     ensures later { S.faults source.old ≤ S.faults source.new }
     ensures failed { result ≡ Err InputError.Failed → Rose (S.faults source.old) (S.faults source.new) }
-    ensures kept { OnOk result (S.faults source.new ≡ S.faults source.old) }
+    ensures kept { result ≢ Err InputError.Failed → S.faults source.new ≡ S.faults source.old }
 {
     let mut text = Vec::new(alloc);
     'reads: while text.len() <= LONGEST_SCRIPT {

@@ -1,6 +1,6 @@
 //! A run of a workload, summed up.
 
-ghost use Rattle.std.specs.Prelude.{◌≡◌, ◌≢◌, ◌≤◌, List, length, Some, Err, IfOk, OnOk};
+ghost use Rattle.std.specs.Prelude.{◌≡◌, ◌≢◌, ◌≤◌, List, length, Some, Err, IfOk};
 ghost use Rattle.streams.specs.Cause.{Rose};
 ghost use Rattle.host_model.specs.declared.cause.EndCause.TheVariants.{NoMemory as RanOut};
 ghost use Rattle.conn_table.specs.declared.run_limits.Outcome.TheVariants as outcomes;
@@ -37,7 +37,8 @@ pub(crate) fn sum_up<H: Handler, J: ReportedJournal, K: Sink>(
     ensures summed { WritesSummary (work_text work.seed work.size) (K.taken out.old) (K.taken out.new) result }
     ensures write_fault { result ≡ Err faults.WriteFault → Rose (K.faults out.old) (K.faults out.new) }
     ensures journal_fault { result ≡ Err faults.JournalFault → run.now.outcome ≡ outcomes.JournalFault }
-    ensures output_kept { OnOk result (K.faults out.new ≡ K.faults out.old) }
+    ensures all { result ≢ Err faults.JournalFault → result ≢ Err faults.NoMemory → run.now.outcome ≡ outcomes.All }
+    ensures output_left { result ≢ Err faults.WriteFault → K.faults out.new ≡ K.faults out.old }
 {
     match run.outcome {
         Outcome::All => {
@@ -130,7 +131,7 @@ fn hand_over<K: Sink>(out: &mut K, text: &[u8]) -> Result<(), ServingFault>
     ensures summed { WritesSummary text.now (K.taken out.old) (K.taken out.new) result }
     ensures write_fault { result ≡ Err faults.WriteFault → Rose (K.faults out.old) (K.faults out.new) }
     ensures no_journal_fault { result ≢ Err faults.JournalFault }
-    ensures output_kept { OnOk result (K.faults out.new ≡ K.faults out.old) }
+    ensures output_left { result ≢ Err faults.WriteFault → K.faults out.new ≡ K.faults out.old }
 {
     match write_all(out, text) {
         Ok(()) => Ok(()),

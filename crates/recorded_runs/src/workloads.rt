@@ -1,14 +1,18 @@
 //! A workload, served from its seed to its summary.
 
-ghost use Rattle.std.specs.Prelude.{◌≡◌, ◌≤◌, false, [], length, map, Some, Err, OnOk};
+ghost use Rattle.std.specs.Prelude.{◌≡◌, ◌≢◌, ◌≤◌, false, [], length, map, Some, Err};
 ghost use Rattle.streams.specs.Cause.{Rose};
 ghost use Rattle.workload.specs.LoadPlan.{workload_plan};
 ghost use Rattle.workload.specs.ExpectedRun.{work_text};
 ghost use Rattle.workload.specs.Summed.{HasCalculator};
 ghost use Rattle.recorded_runs.specs.declared.fault.ServingFault.TheVariants as faults;
+ghost use Rattle.recorded_runs.specs.Recorded.{TellsRunOf};
+ghost use Rattle.recorded_runs.specs.Answered.{TellsSomeRun};
+ghost use Rattle.recorded_runs.specs.ServedScripts.{IsServedScript};
 ghost use Rattle.recorded_runs.specs.Summaries.{ServesCalculator, WritesSummary};
 ghost use Rattle.conn_table.specs.Servable.{CanServe};
 
+use crate::serving::journal_tells;
 use crate::summing::sum_up;
 use crate::workload_laws::a_served_workload_comes_to_its_sum;
 use crate::{Answered, ServingFault};
@@ -39,7 +43,8 @@ pub struct Work {
 ///
 /// # Errors
 ///
-/// WriteFault and JournalFault come only where the count of faults rose; NoMemory may come too. With all but WriteFault nothing is written.
+/// WriteFault and JournalFault come only where the count of faults rose, and the output's is as before with any other result; NoMemory may come too. With all
+/// but WriteFault nothing is written.
 pub fn serve_workload<
     D: Desk + Sync,
     H: Handler,
@@ -68,11 +73,20 @@ pub fn serve_workload<
     requires whole { J.torn journal ≡ false }
     // Ok says that the summary of the workload is what was added to the output, whatever the services remembered, and in whichever order the threads got on.
     ensures summed { WritesSummary (work_text work.seed work.size) (K.taken output.old) (K.taken output.new) result.result }
+    // The journal that comes back tells the entries of that run; with JournalFault and NoMemory those of some run at this desk from the memories that the
+    // handlers had.
+    ensures ran { result.result ≢ Err faults.JournalFault → result.result ≢ Err faults.NoMemory → TellsRunOf (J.told result.journal)
+        (IsServedScript (record { desk = D.meaning desk.now; services = map H.service handlers.items; workers = workers; budget = limits.read_budget; line = λ _. [] }))
+        (workload_plan work.seed work.size) }
+    ensures entries { TellsSomeRun
+        (record { desk = D.meaning desk.now; services = map H.service handlers.items; workers = workers; budget = limits.read_budget; line = λ _. [] })
+        (J.told result.journal) }
     ensures write_fault { result.result ≡ Err faults.WriteFault → Rose (K.faults output.old) (K.faults output.new) }
     ensures journal_fault { result.result ≡ Err faults.JournalFault → Rose (J.faults journal) (J.faults result.journal) }
     ensures later { J.faults journal ≤ J.faults result.journal }
-    // Ok says too that no write has failed.
-    ensures output_kept { OnOk result.result (K.faults output.new ≡ K.faults output.old) }
+    // No write has failed but where the fault says so, and no append but where it says so or memory ran out.
+    ensures output_left { result.result ≢ Err faults.WriteFault → K.faults output.new ≡ K.faults output.old }
+    ensures journal_left { result.result ≢ Err faults.JournalFault → result.result ≢ Err faults.NoMemory → J.faults result.journal ≡ J.faults journal }
 {
     match generate(alloc, work.seed, work.size) {
         Ok(script) => serve_script::<D, H, J, K, G, R>(
@@ -115,10 +129,17 @@ fn serve_script<
     requires empty { J.told journal ≡ Some [] }
     requires whole { J.torn journal ≡ false }
     ensures summed { WritesSummary (work_text work.seed work.size) (K.taken output.old) (K.taken output.new) result.result }
+    ensures ran { result.result ≢ Err faults.JournalFault → result.result ≢ Err faults.NoMemory → TellsRunOf (J.told result.journal)
+        (IsServedScript (record { desk = D.meaning desk.now; services = map H.service handlers.items; workers = workers; budget = limits.read_budget; line = λ _. [] }))
+        (workload_plan work.seed work.size) }
+    ensures entries { TellsSomeRun
+        (record { desk = D.meaning desk.now; services = map H.service handlers.items; workers = workers; budget = limits.read_budget; line = λ _. [] })
+        (J.told result.journal) }
     ensures write_fault { result.result ≡ Err faults.WriteFault → Rose (K.faults output.old) (K.faults output.new) }
     ensures journal_fault { result.result ≡ Err faults.JournalFault → Rose (J.faults journal) (J.faults result.journal) }
     ensures later { J.faults journal ≤ J.faults result.journal }
-    ensures output_kept { OnOk result.result (K.faults output.new ≡ K.faults output.old) }
+    ensures output_left { result.result ≢ Err faults.WriteFault → K.faults output.new ≡ K.faults output.old }
+    ensures journal_left { result.result ≢ Err faults.JournalFault → result.result ≢ Err faults.NoMemory → J.faults result.journal ≡ J.faults journal }
 {
     a_served_workload_comes_to_its_sum();
     let Ok(mut links) = ScriptLinks::new(alloc, script) else {
@@ -131,6 +152,7 @@ fn serve_script<
         rt, alloc, &mut links, desk, handlers, journal, workers, gate, limits,
     );
     links.follow_their_script();
+    journal_tells(&run.journal);
     let tape = links.into_tape();
     let result = sum_up::<H, J, K>(alloc, output, &tape, &run, work);
     let Served { journal, .. } = run;

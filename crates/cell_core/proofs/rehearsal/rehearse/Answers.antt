@@ -7,7 +7,7 @@ use Rattle.cell_loop.specs.Settings.{CellSetting}
 use Rattle.cell_core.specs.Parts.{parts_of}
 use Rattle.cell_core.specs.Whole.{IsFitting}
 use Rattle.cell_core.proofs.Opened.{all_good, lets_all, fresh_count}
-use Rattle.cell_core.proofs.Finishing.{nothing_seen, begun_of_desk, begun_under_way, done_seen, done_counted, done_rehearsed, stop_under_way, stop_seen, stop_rose}
+use Rattle.cell_core.proofs.Finishing.{nothing_seen, begun_of_desk, begun_under_way, done_seen, done_counted, done_rehearsed, stop_under_way, stop_seen, stop_rose, stop_count}
 use Rattle.cell_core.proofs.Givens.{max_given, within_given, slots_given, lines_good, plan_through, written_as, or_none_as, rose_as}
 use Rattle.cell_core.proofs.rehearsal.rehearse.Goals as goal
 use Rattle.call_rules.specs.Desks.{longest_payload}
@@ -187,3 +187,26 @@ returns-in-Err-do_lines-clause-fault g c =
     sound c.in-Ok-made.ensures.part c.in-Ok-made.ensures.workers c.requires.empty max c.in-Ok.hall c.in-Ok.ensures.hall slots
     (parts_of c.do_lines.new.self) c.in-Err-do_lines.stop c.in-Err-do_lines.ensures.err
     (c.stopped.ensures.fault fault))
+
+pub returns-in-Err-clause-kept : goal.returns-in-Err-clause-kept
+returns-in-Err-clause-kept g c = λ other. ap g.J.Journal.faults (c.nothing.ensures.kept.1 ∙ c.in-Err.ensures.err.1)
+
+pub returns-in-Err-made-clause-kept : goal.returns-in-Err-made-clause-kept
+returns-in-Err-made-clause-kept g c =
+    λ other. ap g.J.Journal.faults c.nothing-in-Err-made.ensures.kept.1 ∙ c.into_parts-handlers.ensures.faults ∙ ap (λ (h : ServedHall). h.faults) c.in-Ok.ensures.hall
+
+pub returns-in-Ok-do_lines-clause-kept : goal.returns-in-Ok-do_lines-clause-kept
+returns-in-Ok-do_lines-clause-kept g c =
+    λ other. c.finished.ensures.faults ∙ c.in-Ok-do_lines.ensures.done.count ∙ ap (λ (h : ServedHall). h.faults) c.in-Ok.ensures.hall
+
+pub returns-in-Err-do_lines-clause-kept : goal.returns-in-Err-do_lines-clause-kept
+returns-in-Err-do_lines-clause-kept g c =
+    let s : CellSetting = record { desk = g.D.Desk.meaning c.args.desk.now; opening = map g.H.Handler.service c.args.handlers.items; budget = c.args.limits.read_budget; workers = c.args.workers } in
+    let sound : IsSoundPlan c.args.script.now = c.scripts_are_sound.ensures.sound c.args.script.now c.lines.ensures.sound in
+    let max : s.desk.max_frame ≤ longest_payload = max_given s.desk.max_frame c.args.limits.max_frame c.args.limits.read_budget c.requires.can.longest c.requires.can.within c.requires.can.budget in
+    let slots : s.desk.slots ≡ length s.opening = slots_given g.H.Handler.service c.args.handlers.items s.desk.slots c.requires.can.slots in
+    λ other. c.stopped.ensures.faults
+    ∙ stop_count s c.args.script.now c.in-Ok-made.part c.in-Ok-made.workers.items (g.J.Journal.told c.args.journal) (g.J.Journal.faults c.args.journal)
+    sound c.in-Ok-made.ensures.part c.in-Ok-made.ensures.workers c.requires.empty max c.in-Ok.hall c.in-Ok.ensures.hall slots
+    (parts_of c.do_lines.new.self) c.in-Err-do_lines.stop c.in-Err-do_lines.ensures.err (λ broken. other (c.stopped.ensures.broken broken))
+    ∙ ap (λ (h : ServedHall). h.faults) c.in-Ok.ensures.hall

@@ -1,9 +1,11 @@
-use Rattle.std.proofs.Common.{◌<◌, ◌^◌, map, refl, sym, inl, subst, arith}
+use Rattle.std.proofs.Common.{◌<◌, ◌≤◌, ◌^◌, map, refl, sym, inl, subst, arith}
+use Rattle.call_rules.specs.Desks.{longest_payload}
 use Rattle.script_links.specs.Shown.{links_told}
 use Rattle.host_loop.specs.Served.{ServedRun}
 use Rattle.recorded_runs.specs.Answered.{Answering}
 use Rattle.recorded_runs.specs.ServedScripts.{IsServedScript}
-use Rattle.recorded_runs.proofs.Served.{ran, journal_rose}
+use Rattle.recorded_runs.proofs.Served.{ran, journal_rose, journal_stays, tells_served}
+use Rattle.recorded_runs.proofs.Scripted.{tells_none}
 use Rattle.recorded_runs.proofs.serving.serve_and_report.Goals as goal
 
 pub returns-in_default-clause-reported : goal.returns-in_default-clause-reported
@@ -44,3 +46,46 @@ returns-clause-journal_fault g c is = journal_rose _ _ c.serve-run.ensures.serve
 
 pub returns-clause-later : goal.returns-clause-later
 returns-clause-later g c = c.serve-run.ensures.served.faults
+
+pub returns-in_default-clause-entries : goal.returns-in_default-clause-entries
+returns-in_default-clause-entries g c =
+    let a : Answering =
+    (record {
+      desk = g.D.Desk.meaning c.args.desk.now;
+      services = map g.H.Handler.service c.args.handlers.items;
+      workers = c.args.workers;
+      budget = c.args.limits.read_budget;
+      line = g.L.EntryLine.line;
+    })
+    in
+    let max : a.desk.max_frame ≤ longest_payload = omega (arith, c.requires.can.longest, c.requires.can.within, c.requires.can.budget) in
+    tells_none a (g.J.Journal.told c.args.journal) max c.requires.empty
+
+pub returns-clause-entries : goal.returns-clause-entries
+returns-clause-entries g c =
+    let a : Answering =
+    (record {
+      desk = g.D.Desk.meaning c.args.desk.now;
+      services = map g.H.Handler.service c.args.handlers.items;
+      workers = c.args.workers;
+      budget = c.args.limits.read_budget;
+      line = g.L.EntryLine.line;
+    })
+    in
+    let run : ServedRun =
+    (record {
+      first = links_told c.in-Ok.links;
+      links = links_told c.serve-run.new.links;
+      causes = c.serve-run.result.ends;
+      outcome = c.serve-run.result.outcome;
+      services = map g.H.Handler.service c.serve-run.result.handlers.items;
+      told = g.J.Journal.told c.serve-run.result.journal;
+      torn = g.J.Journal.torn c.serve-run.result.journal;
+      faults_before = g.J.Journal.faults c.args.journal;
+      faults = g.J.Journal.faults c.serve-run.result.journal;
+    })
+    in
+    tells_served a run (g.J.ReportedJournal.listed c.serve-run.result.journal) c.serve-run.ensures.served c.journal_tells.ensures
+
+pub returns-clause-journal_left : goal.returns-clause-journal_left
+returns-clause-journal_left g c = λ no_fault no_want. journal_stays _ _ c.serve-run.ensures.served (c.report_run-result.ensures.all no_fault no_want)

@@ -34,5 +34,5 @@ ends-preserved g c =
           (c.ends.pending.items ++ t))
           (ended_left causes written i _ _ bytes bytes (omega arith) c.requires refl c.index-written-c.is) c.ends.invariant.told)
           w.told;
-      kept = w.cause.kept ∙ c.ends.invariant.kept;
+      kept = w.cause.kept (λ e. absurd (let never : ⊥ = cc in never)) ∙ c.ends.invariant.kept;
     }

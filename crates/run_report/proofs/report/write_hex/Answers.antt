@@ -36,5 +36,5 @@ chunks-preserved g c =
           (c.chunks.pending.items ++ t))
           e c.chunks.invariant.told)
           w.told;
-      kept = w.cause.kept ∙ c.chunks.invariant.kept;
+      kept = w.cause.kept (λ e. absurd (let never : ⊥ = cc in never)) ∙ c.chunks.invariant.kept;
     }

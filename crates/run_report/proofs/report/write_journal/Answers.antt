@@ -26,5 +26,5 @@ loop-i-preserved g c =
       told = line_taken (λ e. line_of (g.L.EntryLine.line e)) listed i item item
           _ (g.K.Sink.taken c.loop-i.out) _ _ c.loop-i.pending.items _ (slice_get_within listed i item there) (sym (get_or_from_slice_get listed i item item there))
           c.loop-i.invariant.told w.told;
-      kept = w.cause.kept ∙ c.loop-i.invariant.kept;
+      kept = w.cause.kept (λ e. absurd (let never : ⊥ = cc in never)) ∙ c.loop-i.invariant.kept;
     }

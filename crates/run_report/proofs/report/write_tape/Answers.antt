@@ -24,7 +24,7 @@ tape-preserved g c =
           (line_of (mark_text (lent_mark c.in-Some.mark))) (tape_lines c.next.new.self) c.write_mark.new.pending.items
           (subst (λ (marks : List Mark). IsTakenBut (g.K.Sink.taken c.args.out.now) (g.K.Sink.taken c.tape.out) (c.args.pending.now.items ++ tape_lines c.args.tape.now) (c.tape.pending.items ++ tape_lines marks))
           c.in-Some.ensures c.tape.invariant.told) w.told;
-      kept = w.cause.kept ∙ c.tape.invariant.kept;
+      kept = w.cause.kept (λ e. absurd (let never : ⊥ = cc in never)) ∙ c.tape.invariant.kept;
     }
 
 pub tape-smaller : goal.tape-smaller

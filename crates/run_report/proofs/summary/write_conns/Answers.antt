@@ -29,5 +29,5 @@ conns-preserved g c =
           (c.conns.pending.items ++ t))
           (conns_left causes i _ _ (omega arith) refl) c.conns.invariant.told)
           w.told;
-      kept = w.cause.kept ∙ c.conns.invariant.kept;
+      kept = w.cause.kept (λ e. absurd (let never : ⊥ = cc in never)) ∙ c.conns.invariant.kept;
     }

@@ -14,11 +14,11 @@ collect_move-requires-clause-under_way g c κs within = some_on all_of_outcomes 
 pub outcomes-preserved : goal.outcomes-preserved
 outcomes-preserved g c =
     outcome_round (parts_of c.args.self.now) (parts_of c.outcomes.self) (parts_of c.collect_move.new.self) c.outcomes.moved c.collect_move.result c.outcomes.invariant c.collect_move.ensures.kept
-    c.collect_move.ensures.later c.collect_move.ensures.moved c.collect_move.ensures.less c.outcomes-test.true
+    c.collect_move.ensures.count c.collect_move.ensures.moved c.collect_move.ensures.less c.outcomes-test.true
 
 pub returns : goal.returns
 returns g c =
     record {
       done = outcome_last (parts_of c.args.self.now) (parts_of c.outcomes.self) (parts_of c.collect_move.new.self) c.outcomes.moved c.collect_move.result c.outcomes.invariant c.collect_move.ensures.kept
-          c.collect_move.ensures.later c.collect_move.ensures.moved c.collect_move.ensures.less c.outcomes-test.false;
+          c.collect_move.ensures.count c.collect_move.ensures.moved c.collect_move.ensures.less c.outcomes-test.false;
     }

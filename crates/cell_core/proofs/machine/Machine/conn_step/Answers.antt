@@ -8,7 +8,7 @@ use Rattle.cell_core.proofs.machine.Machine.conn_step.Goals as goal
 pub returns-in-Some-Whole : goal.returns-in-Some-Whole
 returns-in-Some-Whole g c =
     moved_steps c.args.max_frame c.args.c (parts_of c.args.self.now) (parts_of c.submit.new.self) true (λ s x one other reached comes. c.moves_are_reached.ensures.conn s x one other reached comes)
-    c.requires.under_way (c.submit.ensures.moved c.args.max_frame) c.submit.ensures.kept c.submit.ensures.later
+    c.requires.under_way (c.submit.ensures.moved c.args.max_frame) c.submit.ensures.kept c.submit.ensures.count
 
 pub read-requires-clause-reads : goal.read-requires-clause-reads
 read-requires-clause-reads g c =

@@ -16,15 +16,15 @@ conn_move-requires-clause-under_way g c κs within =
 pub returns-in_err-conn_move-clause-err : goal.returns-in_err-conn_move-clause-err
 returns-in_err-conn_move-clause-err g c =
     on_err c.from_residual.result
-    (conn_breaks c.args.max_frame c.args.c (parts_of c.args.self.now) (parts_of c.reads.self) (parts_of c.conn_move.new.self) c.reads.moved false c.reads.invariant c.in_err-conn_move.ensures.kept c.in_err-conn_move.ensures.later
+    (conn_breaks c.args.max_frame c.args.c (parts_of c.args.self.now) (parts_of c.reads.self) (parts_of c.conn_move.new.self) c.reads.moved false c.reads.invariant c.in_err-conn_move.ensures.kept c.in_err-conn_move.ensures.count
     c.in_err-conn_move.ensures.err)
 
 pub reads-preserved : goal.reads-preserved
 reads-preserved g c =
     conn_round c.args.max_frame c.args.c (parts_of c.args.self.now) (parts_of c.reads.self) (parts_of c.conn_move.new.self) c.reads.moved c.in_ok-conn_move.field-0 c.reads.invariant
-    c.in_ok-conn_move.ensures.kept c.in_ok-conn_move.ensures.later c.in_ok-conn_move.ensures.moved c.in_ok-conn_move.ensures.less c.if-branch.true
+    c.in_ok-conn_move.ensures.kept c.in_ok-conn_move.ensures.count c.in_ok-conn_move.ensures.moved c.in_ok-conn_move.ensures.less c.if-branch.true
 
 pub returns-clause-done : goal.returns-clause-done
 returns-clause-done g c =
     conn_last c.args.max_frame c.args.c (parts_of c.args.self.now) (parts_of c.reads.self) (parts_of c.conn_move.new.self) c.reads.moved c.in_ok-conn_move.field-0 c.reads.invariant
-    c.in_ok-conn_move.ensures.kept c.in_ok-conn_move.ensures.later c.in_ok-conn_move.ensures.moved c.in_ok-conn_move.ensures.less c.if-branch.false
+    c.in_ok-conn_move.ensures.kept c.in_ok-conn_move.ensures.count c.in_ok-conn_move.ensures.moved c.in_ok-conn_move.ensures.less c.if-branch.false

@@ -13,9 +13,9 @@ pub returns-in_err-conn_move-clause-err : goal.returns-in_err-conn_move-clause-e
 returns-in_err-conn_move-clause-err g c =
     on_same c.from_residual.result (λ (stop : RunStop). StopsMachine (HasLongest c.args.max_frame) (parts_of c.args.self.now) (parts_of c.conn_move.new.self) stop) NoMemory c.from_residual.ensures.1
     (early_stops (HasLongest c.args.max_frame) (parts_of c.args.self.now) (parts_of c.conn_move.new.self) NoMemory refl
-    (stays_early (HasLongest c.args.max_frame) (parts_of c.args.self.now) (parts_of c.conn_move.new.self) c.in_err-conn_move.ensures.err c.in_err-conn_move.ensures.kept c.in_err-conn_move.ensures.later))
+    (stays_early (HasLongest c.args.max_frame) (parts_of c.args.self.now) (parts_of c.conn_move.new.self) c.in_err-conn_move.ensures.err c.in_err-conn_move.ensures.kept c.in_err-conn_move.ensures.count))
 
 pub returns-clause-done : goal.returns-clause-done
 returns-clause-done g c =
-    conn_line (parts_of c.args.self.now) (parts_of c.conn_move.new.self) c.in_ok-conn_move.ensures.kept c.in_ok-conn_move.ensures.later c.in_ok-conn_move.field-0 c.args.max_frame c.args.c
+    conn_line (parts_of c.args.self.now) (parts_of c.conn_move.new.self) c.in_ok-conn_move.ensures.kept c.in_ok-conn_move.ensures.count c.in_ok-conn_move.field-0 c.args.max_frame c.args.c
     c.in_ok-conn_move.ensures.moved

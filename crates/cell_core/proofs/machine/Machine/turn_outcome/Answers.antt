@@ -4,4 +4,4 @@ use Rattle.cell_core.proofs.machine.Machine.turn_outcome.Goals as goal
 
 pub returns : goal.returns
 returns g c =
-    record { done = outcome_line (parts_of c.args.self.now) (parts_of c.collect_move.new.self) c.collect_move.ensures.kept c.collect_move.ensures.later c.collect_move.result c.collect_move.ensures.moved }
+    record { done = outcome_line (parts_of c.args.self.now) (parts_of c.collect_move.new.self) c.collect_move.ensures.kept c.collect_move.ensures.count c.collect_move.result c.collect_move.ensures.moved }

@@ -19,5 +19,5 @@ returns-in_err-worker_move-clause-err g c =
 
 pub returns-clause-done : goal.returns-clause-done
 returns-clause-done g c =
-    worker_line (parts_of c.args.self.now) (parts_of c.worker_move.new.self) c.in_ok-worker_move.ensures.kept c.in_ok-worker_move.ensures.later c.in_ok-worker_move.field-0
+    worker_line (parts_of c.args.self.now) (parts_of c.worker_move.new.self) c.in_ok-worker_move.ensures.kept c.in_ok-worker_move.ensures.count c.in_ok-worker_move.field-0
     (g.D.Desk.meaning c.args.desk.now) c.args.w c.in_ok-worker_move.ensures.moved

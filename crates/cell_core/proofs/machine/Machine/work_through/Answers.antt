@@ -36,17 +36,17 @@ returns-in_err-worker_move-clause-err g c =
 pub returns-then-not-branch-clause-done : goal.returns-then-not-branch-clause-done
 returns-then-not-branch-clause-done g c =
     work_ends (g.D.Desk.meaning c.args.desk.now) c.tries.tried c.args.w (parts_of c.args.self.now) (parts_of c.tries.self) (parts_of c.worker_move.new.self) c.tries.moved c.in_ok-worker_move.field-0
-    c.tries.invariant c.tries-test.true c.in_ok-worker_move.ensures.kept c.in_ok-worker_move.ensures.later c.in_ok-worker_move.ensures.moved c.in_ok-worker_move.ensures.less cc
+    c.tries.invariant c.tries-test.true c.in_ok-worker_move.ensures.kept c.in_ok-worker_move.ensures.count c.in_ok-worker_move.ensures.moved c.in_ok-worker_move.ensures.less cc
 
 pub returns-then-rests-clause-done : goal.returns-then-rests-clause-done
 returns-then-rests-clause-done g c =
     work_puts (g.D.Desk.meaning c.args.desk.now) c.tries.tried c.args.w (parts_of c.args.self.now) (parts_of c.tries.self) (parts_of c.worker_move.new.self) c.tries.moved c.in_ok-worker_move.field-0
-    c.tries.invariant c.tries-test.true c.in_ok-worker_move.ensures.kept c.in_ok-worker_move.ensures.later c.in_ok-worker_move.ensures.moved c.in_ok-worker_move.ensures.less (cc) cc
+    c.tries.invariant c.tries-test.true c.in_ok-worker_move.ensures.kept c.in_ok-worker_move.ensures.count c.in_ok-worker_move.ensures.moved c.in_ok-worker_move.ensures.less (cc) cc
 
 pub tries-preserved : goal.tries-preserved
 tries-preserved g c =
     work_round (g.D.Desk.meaning c.args.desk.now) c.tries.tried c.args.w (parts_of c.args.self.now) (parts_of c.tries.self) (parts_of c.worker_move.new.self) c.tries.moved c.in_ok-worker_move.field-0
-    c.tries.invariant c.tries-test.true c.in_ok-worker_move.ensures.kept c.in_ok-worker_move.ensures.later c.in_ok-worker_move.ensures.moved c.in_ok-worker_move.ensures.less (cc) cc
+    c.tries.invariant c.tries-test.true c.in_ok-worker_move.ensures.kept c.in_ok-worker_move.ensures.count c.in_ok-worker_move.ensures.moved c.in_ok-worker_move.ensures.less (cc) cc
 
 pub returns-clause-done : goal.returns-clause-done
 returns-clause-done g c =

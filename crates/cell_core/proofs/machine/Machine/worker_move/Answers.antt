@@ -1,15 +1,17 @@
 use Rattle.std.proofs.Common.{◌<◌, ℕ, List, length, get_or, length-set, refl, sym, ap, ◌∙◌, subst}
 use Rattle.std.specs.Prelude.{IfOk, OnErr}
 use Rattle.call_rules.specs.Desks.{DeskMeaning}
+use Rattle.hall_core.specs.Meant.{ServedHall}
+use Rattle.cell_core.specs.declared.turn.Stepped.{Stepped}
 use Rattle.cell_core.specs.declared.worker.Holding.{Holding}
 use Rattle.cell_core.specs.declared.worker.Holding.TheVariants.{Idle}
 use Rattle.cell_core.specs.Parts.{Parts, parts_of}
 use Rattle.cell_loop.specs.Moving.{one_of_worker}
 use Rattle.cell_core.specs.Machines.{DeskMoves, FailsAt, LeavesLess, MoveKeeps}
 use Rattle.cell_core.specs.TurnMoves.{MayTurn}
-use Rattle.cell_core.specs.Turns.{IsWorkerTurn}
+use Rattle.cell_core.specs.Turns.{IsWorkerTurn, stepped_by}
 use Rattle.cell_core.proofs.Machining.{machine_may, put_back_so, worker_moved, worker_failed, worker_less, worker_kept, only_faults}
-use Rattle.cell_core.proofs.FaultsRise.{faults_later}
+use Rattle.cell_core.proofs.FaultCount.{CountGoes, count_goes, never_falls, count_stays}
 use Rattle.cell_core.proofs.machine.Machine.worker_move.Goals as goal
 
 pub turn-worker-requires-after_bounds : goal.turn-worker-requires-after_bounds
@@ -68,7 +70,17 @@ returns-clause-kept g c =
     (worker_kept desk c.args.w old.part old.hall c.turn-worker.new.hall old.workers c.turn-worker.result.worker c.turn-worker.result.stepped c.requires.there turned
     (λ s v one other reached comes. c.moves_are_reached.ensures.worker s v one other reached comes) c.requires.desk)
 
+pub returns-clause-count : goal.returns-clause-count
+returns-clause-count g c =
+    let old : ServedHall = c.args.self.now.hall in
+    let new : ServedHall = c.turn-worker.new.hall in
+    count_stays c.turn-worker.result.stepped c.moved.result old.faults new.faults c.moved.ensures
+    (subst (λ (stepped : Stepped). CountGoes stepped old.faults new.faults) (sym c.turn-worker.ensures.tells)
+    (count_goes old new c.turn-worker.ensures.op c.turn-worker.ensures.answer c.turn-worker.ensures.gives))
+
 pub returns-clause-later : goal.returns-clause-later
 returns-clause-later g c =
-    let old : Parts = parts_of c.args.self.now in
-    faults_later old.hall c.turn-worker.new.hall c.turn-worker.ensures.op c.turn-worker.ensures.answer c.turn-worker.ensures.gives
+    let old : ServedHall = c.args.self.now.hall in
+    let new : ServedHall = c.turn-worker.new.hall in
+    never_falls (stepped_by c.turn-worker.ensures.op c.turn-worker.ensures.answer) old.faults new.faults
+    (count_goes old new c.turn-worker.ensures.op c.turn-worker.ensures.answer c.turn-worker.ensures.gives)
