@@ -1,5 +1,5 @@
 -- What a file holds whose sink came back.
-use Rattle.std.proofs.Common.{◌≡◌, ℕ, Bool, true, false, List, [], ◌∷◌, ◌++◌, Option, Some, None, IfSome, Result, Ok, Err, IfErr, MatchResult, if◌then◌else◌, refl, sym, ap, ◌∙◌, subst, arith, append-nil}
+use Rattle.std.proofs.Common.{◌≡◌, ℕ, Bool, true, false, List, [], ◌∷◌, ◌++◌, Option, Some, None, IfSome, Result, Ok, Err, IfErr, MatchResult, if◌then◌else◌, refl, sym, ap, ◌∙◌, subst, append-nil}
 use Rattle.std.specs.Prelude.{IfOk, OnOk}
 use Rattle.std.specs.Result.{is_err}
 use Rattle.std.specs.Str.{bytes_eq}
@@ -12,7 +12,7 @@ use Rattle.streams.specs.Making.{with_file, told_with_file, IsThere}
 use Rattle.host_model.specs.Report.{journal_lines}
 use Rattle.call_rules.specs.Entries.{CallEntry}
 use Rattle.journal_text.specs.EntryText.{entry_text}
-use Rattle.journal_text.specs.Spooled.{HasLinesWith, HasSomeLines}
+use Rattle.journal_text.specs.Spooled.{with_unwritten, HasLinesWith, HasSomeLines}
 use Rattle.port_serving.specs.declared.fault.PortFault.{PortFault}
 use Rattle.port_serving.specs.declared.fault.PortFault.TheVariants as faults
 use Rattle.port_serving.specs.Steps.{BeginsJournal, OpensJournal, EndsOpening}
@@ -49,37 +49,35 @@ told : (before shown : Option (List File)) (name bytes : List ℕ) → told_with
 told before None name bytes is = tt
 told before (Some files) name bytes is = is
 
--- no line is lost, whatever is said
-all_lines : (lost : Bool) (entries : List CallEntry) → AreLinesOf lost (journal_lines entry_text entries) entries
-all_lines false entries = refl
-all_lines true entries =
-    record {
-      more = [];
-      few = omega arith;
-      rest = [];
-      whole = append-nil (journal_lines entry_text entries) ∙ ap (journal_lines entry_text) (sym (append-nil entries));
-    }
+-- the lines of all, where lines may be lost
+every_line : (lost : Bool) (entries : List CallEntry) (unwritten : Option CallEntry) → (bytes : List ℕ) × AreLinesOf lost bytes entries unwritten
+every_line false entries unwritten = (journal_lines entry_text entries, refl)
+every_line true entries unwritten =
+    let lines : List ℕ = journal_lines entry_text (with_unwritten entries unwritten) in
+    (lines, record { rest = []; whole = append-nil lines })
 
 -- the file of a journal whose sink came back
-kept_by : (before : Option (List File)) (name : List ℕ) (taken : Option (List ℕ)) (entries : List CallEntry) (lost : Bool) → KeepsLines taken entries lost
-    → KeepsJournal before (told_with_file before name taken) name entries lost
-kept_by before name None entries lost lines =
-    record { bytes = journal_lines entry_text entries; held = untold before name (journal_lines entry_text entries); lines = all_lines lost entries }
-kept_by before name (Some bytes) entries lost lines =
+kept_by : (before : Option (List File)) (name : List ℕ) (taken : Option (List ℕ)) (entries : List CallEntry) (unwritten : Option CallEntry) (lost : Bool)
+    → KeepsLines taken entries unwritten lost → KeepsJournal before (told_with_file before name taken) name entries unwritten lost
+kept_by before name None entries unwritten lost lines =
+    let every : (bytes : List ℕ) × AreLinesOf lost bytes entries unwritten = every_line lost entries unwritten in
+    record { bytes = every.0; held = untold before name every.0; lines = every.1 }
+kept_by before name (Some bytes) entries unwritten lost lines =
     record { bytes = bytes; held = told before (told_with_file before name (Some bytes)) name bytes refl; lines = lines bytes refl }
 
-pub kept : (before between now : Option (List File)) (name : List ℕ) (taken : Option (List ℕ)) (entries : List CallEntry) (lost : Bool)
-    → between ≡ told_with_file before name (Some []) → now ≡ told_with_file between name taken → KeepsLines taken entries lost → KeepsJournal before now name entries lost
-kept before between now name taken entries lost made back lines =
-    subst (λ o. KeepsJournal before o name entries lost)
+pub kept : (before between now : Option (List File)) (name : List ℕ) (taken : Option (List ℕ)) (entries : List CallEntry) (unwritten : Option CallEntry) (lost : Bool)
+    → between ≡ told_with_file before name (Some []) → now ≡ told_with_file between name taken → KeepsLines taken entries unwritten lost
+    → KeepsJournal before now name entries unwritten lost
+kept before between now name taken entries unwritten lost made back lines =
+    subst (λ o. KeepsJournal before o name entries unwritten lost)
     (sym (back ∙ ap (λ o. told_with_file o name taken) made ∙ told_twice before name [] taken))
-    (kept_by before name taken entries lost lines)
+    (kept_by before name taken entries unwritten lost lines)
 
 -- without entries it is empty
-pub empty_file : (before now : Option (List File)) (name : List ℕ) (entries : List CallEntry) (lost : Bool) → entries ≡ [] → lost ≡ false
-    → KeepsJournal before now name entries lost → HoldsInFile before now name []
-empty_file before now name entries lost none whole k =
-    let lines : k.bytes ≡ journal_lines entry_text entries = subst (λ b. AreLinesOf b k.bytes entries) whole k.lines in
+pub empty_file : (before now : Option (List File)) (name : List ℕ) (entries : List CallEntry) (unwritten : Option CallEntry) (lost : Bool) → entries ≡ [] → lost ≡ false
+    → KeepsJournal before now name entries unwritten lost → HoldsInFile before now name []
+empty_file before now name entries unwritten lost none whole k =
+    let lines : k.bytes ≡ journal_lines entry_text entries = subst (λ b. AreLinesOf b k.bytes entries unwritten) whole k.lines in
     subst (HoldsInFile before now name) (lines ∙ ap (journal_lines entry_text) none) k.held
 
 -- A sink that starts empty is unused.
@@ -104,26 +102,25 @@ alone (Some front) now lost text u h bytes is =
     same_Some (bytes ++ lost) text (ap (λ o. told_more o lost) (sym is) ∙ h ∙ ap (λ f. Some (f ++ text)) (u front refl))
 
 -- what it has taken is the lines, or a beginning of them
-pub lines_alone : (opening now : Option (List ℕ)) (held : List ℕ) (entries : List CallEntry) (failed : Bool) → IsUnused opening → (failed ≡ false → held ≡ [])
-    → (failed ≡ false → HasLinesWith opening now held entries) → (failed ≡ true → HasSomeLines opening now entries) → KeepsLines now entries failed
-lines_alone opening now held entries false u finished lines begun =
+pub lines_alone : (opening now : Option (List ℕ)) (held : List ℕ) (entries : List CallEntry) (unwritten : Option CallEntry) (failed : Bool) → IsUnused opening
+    → (failed ≡ false → held ≡ []) → (failed ≡ false → HasLinesWith opening now held entries) → (failed ≡ true → HasSomeLines opening now entries unwritten)
+    → KeepsLines now entries unwritten failed
+lines_alone opening now held entries unwritten false u finished lines begun =
     λ bytes is.
     sym (append-nil bytes) ∙ ap (λ h. bytes ++ h) (sym (finished refl)) ∙ alone opening now held (journal_lines entry_text entries) u (lines refl) bytes is
-lines_alone opening now held entries true u finished lines begun =
+lines_alone opening now held entries unwritten true u finished lines begun =
     λ bytes is.
-    let some : HasSomeLines opening now entries = begun refl in
+    let some : HasSomeLines opening now entries unwritten = begun refl in
     record {
-      more = some.more;
-      few = some.few;
-      rest = some.begun.lost;
-      whole = alone opening now some.begun.lost (journal_lines entry_text (entries ++ some.more)) u some.begun.rest bytes is;
+      rest = some.lost;
+      whole = alone opening now some.lost (journal_lines entry_text (with_unwritten entries unwritten)) u some.rest bytes is;
     }
 
 -- the file of a sink that was handed back unused is empty
 emptied : (before between now : Option (List File)) (name : List ℕ) (taken : Option (List ℕ)) → between ≡ told_with_file before name (Some [])
     → now ≡ told_with_file between name taken → IsUnused taken → HoldsInFile before now name []
 emptied before between now name taken made back u =
-    empty_file before now name [] false refl refl (kept before between now name taken [] false made back (λ bytes is. u bytes is))
+    empty_file before now name [] None false refl refl (kept before between now name taken [] None false made back (λ bytes is. u bytes is))
 
 -- A journal was opened, or the file is empty.
 pub opened_so : {A : Type 0} (result : Result A PortFault) (entries : A → List CallEntry) (held : A → List ℕ) (failed : A → Bool) (count : A → ℕ) (before between now : Option (List File)) (name : List ℕ)

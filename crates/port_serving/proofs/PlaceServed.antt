@@ -1,9 +1,8 @@
 -- From a run of serving over links that listen here, and a journal in a file, to a place that was served.
-use Rattle.std.proofs.Common.{◌≡◌, ℕ, ◌<◌, ◌≤◌, if◌then◌else◌, Bool, true, false, Option, Some, List, refl, sym, ap, ◌∙◌, subst, arith}
+use Rattle.std.proofs.Common.{◌≡◌, ℕ, ◌<◌, ◌≤◌, if◌then◌else◌, Bool, true, false, Option, None, Some, List, refl, sym, ap, ◌∙◌, subst, arith}
 use Rattle.std.proofs.lemmas.Bool.{lt-ltb}
 use Rattle.streams.specs.Cause.{Rose, next_count, next_if_faulty}
-use Rattle.outside.specs.Binding.{StartListening, told_past}
-use Rattle.conn_table.specs.declared.run_limits.Outcome.{Outcome}
+use Rattle.outside.specs.Binding.{StartListening, told_past, there_and_back}
 use Rattle.conn_table.specs.declared.run_limits.Outcome.TheVariants as outcomes
 use Rattle.call_rules.specs.Entries.{CallEntry}
 use Rattle.machine_model.specs.SeenHall.{MayHave}
@@ -48,11 +47,12 @@ pub not_torn : (torn lost : Bool) → (torn ≡ true → lost ≡ true) → lost
 not_torn false lost h whole = refl
 not_torn true lost h whole = absurd (let both : true ≡ false = sym (h refl) ∙ whole in let never : ⊥ = cc in never)
 
-module _ (s : ServerSetting) (place : PortPlace) (change : PlaceChange) (run : ServedRun) (entries : List CallEntry) (calls faults : ℕ) (lost : Bool) (served : IsServed s run)
+module _ (s : ServerSetting) (place : PortPlace) (change : PlaceChange) (run : ServedRun) (entries : List CallEntry) (unwritten : Option CallEntry) (calls faults : ℕ) (lost : Bool) (served : IsServed s run)
     (told : run.told ≡ Some entries) (none : run.faults_before ≡ 0) (starts : StartListening change.past_before place.listening run.first)
-    (back : change.past ≡ told_past change.past_before run.links) (torn : run.torn ≡ true → lost ≡ true) (later : run.faults ≤ faults)
+    (back : change.past ≡ told_past change.past_before run.links) (once : change.handed ≡ there_and_back change.handed_before) (torn : run.torn ≡ true → lost ≡ true) (later : run.faults ≤ faults)
     (at_end : run.torn ≡ false → lost ≡ true → Rose run.faults faults) (sinks : change.sink_faults ≡ next_if_faulty faults change.sink_faults_before)
-    (file : KeepsJournal change.files_before change.files place.journal entries lost) (counted : calls ≡ appended_count entries) where
+    (file : KeepsJournal change.files_before change.files place.journal entries unwritten lost) (written : run.torn ≡ false → unwritten ≡ None)
+    (counted : calls ≡ appended_count entries) where
   journal_is : entries ≡ served.journal
   journal_is = subst (λ o. MayHave o served.journal) told served.journal_told
 
@@ -66,9 +66,12 @@ module _ (s : ServerSetting) (place : PortPlace) (change : PlaceChange) (run : S
         comes_out = served.comes_out;
         first = starts;
         back = links_back change.past_before change.past place.listening run.links served.tape back (served.left.listens ∙ starts.listens) served.tape_told;
+        once = once;
         told = told ∙ ap Some journal_is;
         counted = counted ∙ ap appended_count journal_is;
-        file = subst (λ (es : List CallEntry). KeepsJournal change.files_before change.files place.journal es lost) journal_is file;
+        unwritten = unwritten;
+        file = subst (λ (es : List CallEntry). KeepsJournal change.files_before change.files place.journal es unwritten lost) journal_is file;
+        written = written;
         torn = torn;
         rose = λ is. rose_back run.faults_before faults change.sink_faults_before change.sink_faults none
             (lost_rose run.torn lost run.faults_before run.faults faults none served.torn later at_end is) sinks;

@@ -1,7 +1,8 @@
 -- What an answer to serving at a place says of the files, the binder and the output.
-use Rattle.std.specs.Prelude.{◌≡◌, ◌⊎◌, ℕ, Bool, true, false, Option, List, [], Result, MatchResult}
+use Rattle.std.specs.Prelude.{◌≡◌, ◌⊎◌, ℕ, Bool, true, false, Option, List, [], Result, Ok, Err, MatchResult}
 use Rattle.streams.specs.Content.{told_more}
 use Rattle.streams.specs.Taken.{IsTakenInPart}
+use Rattle.outside.specs.Binding.{there_and_back}
 use Rattle.host_model.specs.declared.cause.EndCause.{EndCause}
 use Rattle.conn_table.specs.declared.run_limits.Outcome.{Outcome}
 use Rattle.conn_table.specs.declared.run_limits.Outcome.TheVariants as outcomes
@@ -19,22 +20,25 @@ pub record OutputChange : Type 0 where
   pub taken : Option (List ℕ)
 
 module _ (place : PortPlace) (change : PlaceChange) (output : OutputChange) where
-  -- nothing was touched
+  -- nothing was touched, and nothing handed out
   pub record IsUntouched : Type 0 where
     pub files : change.files ≡ change.files_before
     pub past : change.past ≡ change.past_before
+    pub handed : change.handed ≡ change.handed_before
     pub taken : output.taken ≡ output.taken_before
 
   -- nothing was listened to, and nothing written; the journal's file is there, and empty
   pub record HasNotListened : Type 0 where
     pub file : HoldsInFile change.files_before change.files place.journal []
     pub past : change.past ≡ change.past_before
+    pub handed : change.handed ≡ change.handed_before
     pub taken : output.taken ≡ output.taken_before
 
-  -- It was listened, and no connection served: links came back on which nothing had happened. A beginning of the line that tells so was written.
+  -- It was listened once, and no connection served: the links came back, on which nothing had happened. A beginning of the line that tells so was written.
   pub record HasOnlyListened : Type 0 where
     pub file : HoldsInFile change.files_before change.files place.journal []
     pub back : HasLinksBack change.past_before change.past place.listening [] false
+    pub once : change.handed ≡ there_and_back change.handed_before
     pub begun : IsTakenInPart output.taken_before output.taken (listening_line place.listening.port)
 
 module _ (s : ServerSetting) (place : PortPlace) (change : PlaceChange) (output : OutputChange) where
@@ -67,3 +71,16 @@ module _ (s : ServerSetting) (place : PortPlace) (change : PlaceChange) (output 
   -- what a result says: connections were served until all was over, or what the fault says
   abbrev pub MeansServedPort : {A : Type 0} → Result A PortFault → Type 0
   MeansServedPort result = MatchResult result (λ _. HasServedAll) MeansPortFault
+
+-- after this fault serving goes on to its end, where more may fail
+abbrev pub goes_on : PortFault → Bool
+goes_on faults.FileFault = false
+goes_on faults.NetFault = true
+goes_on faults.WriteFault = false
+goes_on faults.JournalFault = true
+goes_on faults.NoMemory = true
+
+-- it went on so
+abbrev pub went_on : {A : Type 0} → Result A PortFault → Bool
+went_on (Ok _) = false
+went_on (Err fault) = goes_on fault

@@ -5,7 +5,7 @@ use Rattle.streams.specs.Taken.{IsTakenInPart}
 use Rattle.streams.specs.Files.{File}
 use Rattle.streams.specs.Making.{told_with_file, IsThere}
 use Rattle.outside.specs.LinksState.{Listening, LinksState}
-use Rattle.outside.specs.Binding.{PastLinks, StartListening}
+use Rattle.outside.specs.Binding.{PastLinks, HandedOut, StartListening, one_more_out, there_and_back}
 use Rattle.outside.specs.declared.binder.BindFail.{BindFail}
 use Rattle.outside.specs.declared.binder.BindFail.TheVariants as binds
 use Rattle.run_report.specs.declared.fault.ReportFault.{ReportFault}
@@ -50,25 +50,34 @@ EndsOpening faults.FileFault before now name = now ≡ before
 EndsOpening faults.NoMemory before now name = HoldsInFile before now name []
 EndsOpening _ before now name = ⊥
 
+-- what a binder and an output tell: the links that came back, how many links and pipes were handed out and came back, and what was written
+pub record PortState : Type 0 where
+  pub past : Option (List PastLinks)
+  pub handed : HandedOut
+  pub taken : Option (List ℕ)
+
 -- links listen, the line that tells so was written, and none came back
-pub record StartsListening (before now : Option (List PastLinks)) (listening : Listening) (taken_before taken : Option (List ℕ)) (links : LinksState) : Type 0 where
-  pub starts : StartListening before listening links
-  pub same : now ≡ before
-  pub line : taken ≡ told_more taken_before (listening_line listening.port)
+pub record StartsListening (before now : PortState) (listening : Listening) (links : LinksState) : Type 0 where
+  pub starts : StartListening before.past listening links
+  pub same : now.past ≡ before.past
+  pub out : now.handed ≡ one_more_out before.handed
+  pub line : now.taken ≡ told_more before.taken (listening_line listening.port)
 
 -- nothing is listened to, and nothing was written
-abbrev pub IsSilent : (before now : Option (List PastLinks)) (taken_before taken : Option (List ℕ)) → Type 0
-IsSilent before now taken_before taken = (now ≡ before) × (taken ≡ taken_before)
+pub record IsSilent (before now : PortState) : Type 0 where
+  pub past : now.past ≡ before.past
+  pub handed : now.handed ≡ before.handed
+  pub taken : now.taken ≡ before.taken
 
--- links came back on which nothing had happened, and a beginning of the line was written
-abbrev pub IsLineBroken : (before now : Option (List PastLinks)) → Listening → (taken_before taken : Option (List ℕ)) → Type 0
-IsLineBroken before now listening taken_before taken =
-    HasLinksBack before now listening [] false × IsTakenInPart taken_before taken (listening_line listening.port)
+-- the links came back, on which nothing had happened, and a beginning of the line was written
+pub record IsLineBroken (before now : PortState) (listening : Listening) : Type 0 where
+  pub back : HasLinksBack before.past now.past listening [] false
+  pub once : now.handed ≡ there_and_back before.handed
+  pub begun : IsTakenInPart before.taken now.taken (listening_line listening.port)
 
 -- what is known of the binder and the output where nothing is listened to
-abbrev pub EndsListening : PortFault → (before now : Option (List PastLinks)) → Listening → (taken_before taken : Option (List ℕ)) → Type 0
-EndsListening faults.NetFault before now listening taken_before taken = IsSilent before now taken_before taken
-EndsListening faults.WriteFault before now listening taken_before taken = IsLineBroken before now listening taken_before taken
-EndsListening faults.NoMemory before now listening taken_before taken =
-    IsSilent before now taken_before taken ⊎ IsLineBroken before now listening taken_before taken
-EndsListening _ before now listening taken_before taken = ⊥
+abbrev pub EndsListening : PortFault → (before now : PortState) → Listening → Type 0
+EndsListening faults.NetFault before now listening = IsSilent before now
+EndsListening faults.WriteFault before now listening = IsLineBroken before now listening
+EndsListening faults.NoMemory before now listening = IsSilent before now ⊎ IsLineBroken before now listening
+EndsListening _ before now listening = ⊥

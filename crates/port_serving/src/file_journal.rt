@@ -1,6 +1,6 @@
 //! A journal whose lines go into a file that was made for them.
 
-ghost use Rattle.std.specs.Prelude.{◌≡◌, ◌≤◌, [], List, Option, Some, true, false, IfOk, IfErr, OnOk, Err, MatchResult};
+ghost use Rattle.std.specs.Prelude.{◌≡◌, ◌≢◌, ◌≤◌, [], List, Option, None, Some, true, false, IfOk, IfErr, Err, MatchResult};
 ghost use Rattle.streams.specs.Cause.{Rose, next_if_faulty};
 ghost use Rattle.streams.specs.Files.{File};
 ghost use Rattle.streams.specs.Making.{told_with_file, IsThere};
@@ -38,7 +38,7 @@ impl<K: Sink> FileJournal<K> {
     /// A journal without entries over a sink that has taken nothing.
     fn new(alloc: Global, sink: K) -> Result<Self, NoJournal<K>>
         requires unused { IsUnused (K.taken sink) }
-        ensures ok { IfOk result (λ journal. journal ≡ record { sink = sink; opening = sink; held = []; entries = []; failed = false }) }
+        ensures ok { IfOk result (λ journal. journal ≡ record { sink = sink; opening = sink; held = []; entries = []; unwritten = None; failed = false }) }
         ensures err { IfErr result (λ no. no.0 ≡ sink) }
     {
         match SpoolJournal::new(alloc, sink) {
@@ -60,6 +60,7 @@ impl<K: Sink> FileJournal<K> {
         ensures torn { self.old.failed ≡ true → result ≡ true }
         ensures empty { result ≡ false → self.new.held ≡ [] }
         ensures entries { self.new.entries ≡ self.old.entries }
+        ensures unwritten { self.old.failed ≡ false → self.new.unwritten ≡ None }
         ensures later { K.faults self.old.sink ≤ K.faults self.new.sink }
         ensures rose { self.old.failed ≡ false → result ≡ true → Rose (K.faults self.old.sink) (K.faults self.new.sink) }
         ensures kept { result ≡ false → K.faults self.new.sink ≡ K.faults self.old.sink }
@@ -74,7 +75,7 @@ impl<K: Sink> FileJournal<K> {
     fn into_sink(self) -> K
         requires finished { self.failed ≡ false → self.held ≡ [] }
         ensures sink { result ≡ self.sink }
-        ensures lines { KeepsLines (K.taken result) self.entries self.failed }
+        ensures lines { KeepsLines (K.taken result) self.entries self.unwritten self.failed }
     {
         self.journal.into_sink()
     }
@@ -111,7 +112,7 @@ pub(crate) fn open_journal<F: Files>(
         (λ fault. EndsOpening fault (F.files files.old) (F.files files.new) name.now) }
     ensures sinks { F.sink_faults files.new ≡ F.sink_faults files.old }
     ensures file_fault { result ≡ Err PortFault.FileFault → Rose (F.faults files.old) (F.faults files.new) }
-    ensures kept { OnOk result (F.faults files.new ≡ F.faults files.old) }
+    ensures kept { result ≢ Err PortFault.FileFault → F.faults files.new ≡ F.faults files.old }
 {
     match files.create(alloc, name) {
         Ok(sink) => begin_journal(alloc, files, name, sink),
@@ -150,7 +151,7 @@ pub(crate) fn close_journal<F: Files>(files: &mut F, name: &str, journal: FileJo
     requires there { IsThere (F.files files.old) name.now }
     requires finished { journal.failed ≡ false → journal.held ≡ [] }
     ensures kept { (before : Option (List File)) → F.files files.old ≡ told_with_file before name.now (Some [])
-        → KeepsJournal before (F.files files.new) name.now journal.entries journal.failed }
+        → KeepsJournal before (F.files files.new) name.now journal.entries journal.unwritten journal.failed }
     ensures sinks { F.sink_faults files.new ≡ next_if_faulty (F.Out.faults journal.sink) (F.sink_faults files.old) }
     ensures same { F.faults files.new ≡ F.faults files.old }
 {

@@ -1,7 +1,8 @@
 //! Listening at a port, and the line that tells so.
 
-ghost use Rattle.std.specs.Prelude.{◌≡◌, ◌≢◌, ◌≤◌, Err, MatchResult, OnOk};
+ghost use Rattle.std.specs.Prelude.{◌≡◌, ◌≢◌, ◌≤◌, false, Err, MatchResult};
 ghost use Rattle.streams.specs.Cause.{Rose};
+ghost use Rattle.port_serving.specs.Answered.{went_on};
 ghost use Rattle.port_serving.specs.Steps.{StartsListening, EndsListening};
 
 use crate::fault::PortFault;
@@ -19,15 +20,21 @@ pub(crate) fn listen<K: Sink, B: Binder>(
     accept: u32,
 ) -> Result<B::L, PortFault>
     ensures listening { MatchResult result
-        (λ links. StartsListening (B.past binder.old) (B.past binder.new) (record { port = port; accept = accept }) (K.taken output.old) (K.taken output.new) (B.L.state links))
-        (λ fault. EndsListening fault (B.past binder.old) (B.past binder.new) (record { port = port; accept = accept }) (K.taken output.old) (K.taken output.new)) }
+        (λ links. StartsListening
+        (record { past = B.past binder.old; handed = B.handed binder.old; taken = K.taken output.old })
+        (record { past = B.past binder.new; handed = B.handed binder.new; taken = K.taken output.new })
+        (record { port = port; accept = accept }) (B.L.state links))
+        (λ fault. EndsListening fault
+        (record { past = B.past binder.old; handed = B.handed binder.old; taken = K.taken output.old })
+        (record { past = B.past binder.new; handed = B.handed binder.new; taken = K.taken output.new })
+        (record { port = port; accept = accept })) }
     ensures called { B.called binder.new ≡ B.called binder.old }
     ensures binder_later { B.faults binder.old ≤ B.faults binder.new }
     ensures output_later { K.faults output.old ≤ K.faults output.new }
     ensures net_fault { result ≡ Err PortFault.NetFault → Rose (B.faults binder.old) (B.faults binder.new) }
     ensures write_fault { result ≡ Err PortFault.WriteFault → Rose (K.faults output.old) (K.faults output.new) }
-    ensures binder_kept { OnOk result (B.faults binder.new ≡ B.faults binder.old) }
-    ensures output_kept { OnOk result (K.faults output.new ≡ K.faults output.old) }
+    ensures binder_kept { went_on result ≡ false → B.faults binder.new ≡ B.faults binder.old }
+    ensures output_kept { went_on result ≡ false → result ≢ Err PortFault.WriteFault → K.faults output.new ≡ K.faults output.old }
     ensures no_file_fault { result ≢ Err PortFault.FileFault }
     ensures no_journal_fault { result ≢ Err PortFault.JournalFault }
 {

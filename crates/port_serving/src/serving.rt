@@ -1,17 +1,17 @@
 //! A port, served from its listening to the summary.
 
-ghost use Rattle.std.specs.Prelude.{◌≡◌, ◌≢◌, ℕ, true, false, [], List, Option, Some, length, map, Err, OnOk};
+ghost use Rattle.std.specs.Prelude.{◌≡◌, ◌≢◌, ℕ, true, false, [], List, Option, Some, length, map, Err};
 ghost use Rattle.streams.specs.Cause.{Rose};
 ghost use Rattle.streams.specs.Content.{told_more};
 ghost use Rattle.streams.specs.Files.{File};
 ghost use Rattle.streams.specs.Making.{told_with_file, IsThere};
-ghost use Rattle.outside.specs.Binding.{StartListening};
+ghost use Rattle.outside.specs.Binding.{StartListening, HandedOut, one_more_out};
 ghost use Rattle.conn_table.specs.declared.run_limits.Outcome.TheVariants as outcomes;
 ghost use Rattle.run_report.specs.Summary.{listening_line};
 ghost use Rattle.host_loop.specs.Served.{ServerSetting};
 ghost use Rattle.port_serving.specs.Places.{PortPlace, PlaceChange};
 ghost use Rattle.port_serving.specs.Served.{HasServedPort};
-ghost use Rattle.port_serving.specs.Answered.{MeansServedPort};
+ghost use Rattle.port_serving.specs.Answered.{MeansServedPort, went_on};
 ghost use Rattle.conn_table.specs.Servable.{CanServe};
 
 use crate::fault::PortFault;
@@ -71,8 +71,9 @@ pub fn serve_port<
     place: &ServedPort<'_>,
 ) -> Result<(), PortFault>
     requires can { CanServe limits workers (D.meaning desk.now).max_frame (D.meaning desk.now).slots (length handlers.items) }
-    // Ok says that connections were served at this desk and from the memories that the handlers had until all was over, that the file holds the journal's lines, that
-    // the links came back with the tape, and that the summary was written. JournalFault says that the file holds a beginning of these lines and of one call's more.
+    // Ok says that connections were served at this desk and from the memories that the handlers had until all was over, that the file holds the
+    // journal's lines, that the links came back with the tape, and that the summary was written. JournalFault says that the file holds a beginning of
+    // these lines and of that of the call whose append failed. At most once links are handed out, and then they have come back; no pipe is.
     ensures means { MeansServedPort
         (record { desk = D.meaning desk.now; services = map H.service handlers.items; budget = limits.read_budget })
         (record { listening = record { port = place.now.port; accept = place.now.accept }; journal = place.now.journal.now })
@@ -83,6 +84,8 @@ pub fn serve_port<
           sink_faults = F.sink_faults files.new;
           past_before = B.past binder.old;
           past = B.past binder.new;
+          handed_before = B.handed binder.old;
+          handed = B.handed binder.new;
         })
         (record { taken_before = K.taken output.old; taken = K.taken output.new }) result }
     // No port was dialled.
@@ -91,11 +94,12 @@ pub fn serve_port<
     ensures net_fault { result ≡ Err PortFault.NetFault → Rose (B.faults binder.old) (B.faults binder.new) }
     ensures write_fault { result ≡ Err PortFault.WriteFault → Rose (K.faults output.old) (K.faults output.new) }
     ensures journal_fault { result ≡ Err PortFault.JournalFault → Rose (F.sink_faults files.old) (F.sink_faults files.new) }
-    // Ok says too that no fault was met: of the files, the binder and its links, the output, and the journal's sink.
-    ensures files_kept { OnOk result (F.faults files.new ≡ F.faults files.old) }
-    ensures binder_kept { OnOk result (B.faults binder.new ≡ B.faults binder.old) }
-    ensures output_kept { OnOk result (K.faults output.new ≡ K.faults output.old) }
-    ensures sinks_kept { OnOk result (F.sink_faults files.new ≡ F.sink_faults files.old) }
+    // What failed is told: of the files always, of the binder and its links, the output and the journal's sink unless serving went on to its end after the fault that
+    // is told.
+    ensures files_kept { result ≢ Err PortFault.FileFault → F.faults files.new ≡ F.faults files.old }
+    ensures binder_kept { went_on result ≡ false → B.faults binder.new ≡ B.faults binder.old }
+    ensures output_kept { went_on result ≡ false → result ≢ Err PortFault.WriteFault → K.faults output.new ≡ K.faults output.old }
+    ensures sinks_kept { went_on result ≡ false → F.sink_faults files.new ≡ F.sink_faults files.old }
 {
     let journal = open_journal(alloc, files, place.journal)?;
     match listen(alloc, output, binder, place.port, place.accept) {
@@ -141,7 +145,8 @@ fn serve_links<
     requires faultless { F.Out.faults journal.sink ≡ 0 }
     requires there { IsThere (F.files files.old) place.now.journal.now }
     requires starts { StartListening (B.past binder.old) (record { port = place.now.port; accept = place.now.accept }) (B.L.state links) }
-    ensures served { (before : Option (List File)) → F.files files.old ≡ told_with_file before place.now.journal.now (Some [])
+    ensures served { (before : Option (List File)) (handed : HandedOut) → F.files files.old ≡ told_with_file before place.now.journal.now (Some [])
+        → B.handed binder.old ≡ one_more_out handed
         → HasServedPort
         (record { desk = D.meaning desk.now; services = map H.service handlers.items; budget = limits.read_budget })
         (record { listening = record { port = place.now.port; accept = place.now.accept }; journal = place.now.journal.now })
@@ -152,6 +157,8 @@ fn serve_links<
           sink_faults = F.sink_faults files.new;
           past_before = B.past binder.old;
           past = B.past binder.new;
+          handed_before = handed;
+          handed = B.handed binder.new;
         })
         result.ends result.calls result.outcome result.lost }
     ensures called { B.called binder.new ≡ B.called binder.old }
@@ -194,9 +201,9 @@ fn finish<K: Sink>(alloc: Global, output: &mut K, run: &PortRun) -> Result<(), P
     ensures net_fault { result ≡ Err PortFault.NetFault → run.now.outcome ≡ outcomes.NetFault }
     ensures write_fault { result ≡ Err PortFault.WriteFault → Rose (K.faults output.old) (K.faults output.new) }
     ensures journal_fault { result ≡ Err PortFault.JournalFault → run.now.lost ≡ true }
-    ensures all { OnOk result (run.now.outcome ≡ outcomes.All) }
-    ensures whole { OnOk result (run.now.lost ≡ false) }
-    ensures output_kept { OnOk result (K.faults output.new ≡ K.faults output.old) }
+    ensures all { went_on result ≡ false → run.now.outcome ≡ outcomes.All }
+    ensures whole { went_on result ≡ false → run.now.lost ≡ false }
+    ensures output_kept { went_on result ≡ false → result ≢ Err PortFault.WriteFault → K.faults output.new ≡ K.faults output.old }
 {
     let written = write_summary(alloc, output, run.ends.as_slice(), run.calls);
     match run.outcome {

@@ -6,7 +6,7 @@ use Rattle.port_serving.proofs.file_journal.close_journal.Goals as goal
 pub returns-clause-kept : goal.returns-clause-kept
 returns-clause-kept g c before made =
     kept before (g.F.Files.files c.args.files.now) (g.F.Files.files c.take_back.new.self) c.args.name.now (g.F.Out.Sink.taken c.into_sink.result) c.args.journal.entries
-    c.args.journal.failed made c.take_back.ensures.files c.into_sink.ensures.lines
+    c.args.journal.unwritten c.args.journal.failed made c.take_back.ensures.files c.into_sink.ensures.lines
 
 pub returns-clause-sinks : goal.returns-clause-sinks
 returns-clause-sinks g c =

@@ -1,5 +1,4 @@
-use Rattle.std.proofs.Common.{◌∙◌}
-use Rattle.streams.proofs.Causes.{on_ok}
+use Rattle.std.proofs.Common.{refl, ◌∙◌}
 use Rattle.port_serving.proofs.Filing.{unused, opened_so, no_file_fault}
 use Rattle.port_serving.proofs.file_journal.open_journal.Goals as goal
 
@@ -17,4 +16,7 @@ pub returns-in-Ok-clause-file_fault : goal.returns-in-Ok-clause-file_fault
 returns-in-Ok-clause-file_fault g c is = absurd (no_file_fault c.begin_journal.result c.begin_journal.ensures.faults is)
 
 pub returns-in-Ok-clause-kept : goal.returns-in-Ok-clause-kept
-returns-in-Ok-clause-kept g c = on_ok c.begin_journal.result (c.begin_journal.ensures.kept ∙ c.in-Ok.ensures.cause.kept)
+returns-in-Ok-clause-kept g c = λ not_it. c.begin_journal.ensures.kept ∙ c.in-Ok.ensures.cause.kept
+
+pub returns-in-Err-clause-kept : goal.returns-in-Err-clause-kept
+returns-in-Err-clause-kept g c = λ not_it. absurd (not_it refl)

@@ -1,9 +1,9 @@
-use Rattle.std.proofs.Common.{inr, inl, true, false, refl, sym, subst}
+use Rattle.std.proofs.Common.{inr, inl, true, false, refl, sym, subst, Err, ap}
 use Rattle.std.proofs.lemmas.Result.{err_from_is_err_and}
 use Rattle.conn_table.specs.declared.run_limits.Outcome.TheVariants as outcomes
 use Rattle.port_serving.specs.Served.{HasServedPort}
 use Rattle.port_serving.specs.Answered.{OutputChange}
-use Rattle.port_serving.proofs.Answering.{summed, begun, unwritten}
+use Rattle.port_serving.proofs.Answering.{summed, begun, unwritten, summary_over}
 use Rattle.port_serving.proofs.serving.finish.Goals as goal
 
 pub returns-in_err-written-in-All-clause-means : goal.returns-in_err-written-in-All-clause-means
@@ -64,3 +64,11 @@ returns-then-run-clause-means g c s place change before served line =
     inr
     (begun s place change output (g.K.Sink.taken c.args.output.now) line c.as_slice.result.now c.args.run.now.calls c.args.run.now.outcome c.args.run.now.lost here
     c.write_summary-written.result outcomes.All true c.in-All.is c.if-run.true c.write_summary-written.ensures.told)
+
+pub returns-in_err-written-in-All-clause-output_kept : goal.returns-in_err-written-in-All-clause-output_kept
+returns-in_err-written-in-All-clause-output_kept g c =
+    let p = err_from_is_err_and c.from_residual.result c.from_residual.ensures.1 in
+    rw (p.1, p.2) (λ over not_it. absurd (not_it (ap Err (summary_over c.in_err-written-in-All.field-0.0 over))))
+
+pub returns-in_ok-written-in-All-clause-output_kept : goal.returns-in_ok-written-in-All-clause-output_kept
+returns-in_ok-written-in-All-clause-output_kept g c = λ over not_it. c.in_ok-written-in-All.ensures.cause.kept (λ e. let never : ⊥ = cc in never)

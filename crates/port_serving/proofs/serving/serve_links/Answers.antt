@@ -1,8 +1,9 @@
-use Rattle.std.proofs.Common.{◌≡◌, List, [], ℕ, Option, Some, map, refl, sym, subst, ◌∙◌}
+use Rattle.std.proofs.Common.{◌≡◌, List, [], Option, Some, map, refl, sym, ap, subst, ◌∙◌}
 use denote.Param.Send.{sendable}
 use Rattle.streams.specs.Files.{File}
 use Rattle.streams.specs.Making.{told_with_file}
 use Rattle.outside.specs.LinksState.{Listening}
+use Rattle.outside.specs.Binding.{one_more_back}
 use Rattle.call_rules.specs.Entries.{CallEntry}
 use Rattle.host_loop.specs.Served.{ServerSetting, ServedRun}
 use Rattle.port_serving.specs.FileJournals.{KeepsJournal}
@@ -25,7 +26,7 @@ pub take_back-requires : goal.take_back-requires
 take_back-requires g c = they_listen _ _ (c.serve-run.ensures.served.left.listens ∙ c.requires.starts.listens)
 
 pub returns-clause-served : goal.returns-clause-served
-returns-clause-served g c before made =
+returns-clause-served g c before handed made out =
     let s : ServerSetting =
     (record {
       desk = g.D.Desk.meaning c.args.desk.now;
@@ -43,13 +44,16 @@ returns-clause-served g c before made =
       sink_faults = g.F.Files.sink_faults c.close_journal.new.files;
       past_before = g.B.Binder.past c.args.binder.now;
       past = g.B.Binder.past c.take_back.new.self;
+      handed_before = handed;
+      handed = g.B.Binder.handed c.take_back.new.self;
     })
     in
+    let unwritten : Option CallEntry = c.finish-lost.new.self.unwritten in
     let left : (b : Option (List File)) → g.F.Files.files c.args.files.now ≡ told_with_file b c.args.place.now.journal.now (Some [])
-    → KeepsJournal b (g.F.Files.files c.close_journal.new.files) c.args.place.now.journal.now c.serve-run.result.journal.entries c.finish-lost.result =
-    λ b is. subst (λ (es : List CallEntry). KeepsJournal b (g.F.Files.files c.close_journal.new.files) c.args.place.now.journal.now es c.finish-lost.result)
+    → KeepsJournal b (g.F.Files.files c.close_journal.new.files) c.args.place.now.journal.now c.serve-run.result.journal.entries unwritten c.finish-lost.result =
+    λ b is. subst (λ (es : List CallEntry). KeepsJournal b (g.F.Files.files c.close_journal.new.files) c.args.place.now.journal.now es unwritten c.finish-lost.result)
     c.finish-lost.ensures.entries
-    (subst (KeepsJournal b (g.F.Files.files c.close_journal.new.files) c.args.place.now.journal.now c.finish-lost.new.self.entries) c.finish-lost.ensures.failed
+    (subst (KeepsJournal b (g.F.Files.files c.close_journal.new.files) c.args.place.now.journal.now c.finish-lost.new.self.entries unwritten) c.finish-lost.ensures.failed
     (c.close_journal.ensures.kept b is)) in
     let run : ServedRun =
     (record {
@@ -64,9 +68,10 @@ returns-clause-served g c before made =
       faults = g.F.Out.Sink.faults c.serve-run.result.journal.sink;
     })
     in
-    has_served s place change run c.serve-run.result.journal.entries c.count-calls.result (g.F.Out.Sink.faults c.finish-lost.new.self.sink) c.finish-lost.result
-    c.serve-run.ensures.served refl c.requires.faultless c.requires.starts c.take_back.ensures.past c.finish-lost.ensures.torn c.finish-lost.ensures.later
-    c.finish-lost.ensures.rose c.close_journal.ensures.sinks (left before made) c.count-calls.ensures
+    has_served s place change run c.serve-run.result.journal.entries unwritten c.count-calls.result (g.F.Out.Sink.faults c.finish-lost.new.self.sink) c.finish-lost.result
+    c.serve-run.ensures.served refl c.requires.faultless c.requires.starts c.take_back.ensures.past (c.take_back.ensures.handed ∙ ap one_more_back out)
+    c.finish-lost.ensures.torn c.finish-lost.ensures.later c.finish-lost.ensures.rose c.close_journal.ensures.sinks (left before made)
+    c.finish-lost.ensures.unwritten c.count-calls.ensures
 
 pub returns-clause-net_fault : goal.returns-clause-net_fault
 returns-clause-net_fault g c is =

@@ -14,6 +14,10 @@ pub returns-then-failed-clause-rose : goal.returns-then-failed-clause-rose
 returns-then-failed-clause-rose g c whole is =
     absurd (let both : true ≡ false = sym c.if-failed.true ∙ c.failed.ensures ∙ ap (λ v. v.failed) c.self.view_is ∙ whole in let never : ⊥ = cc in never)
 
+pub returns-then-failed-clause-unwritten : goal.returns-then-failed-clause-unwritten
+returns-then-failed-clause-unwritten g c whole =
+    absurd (let both : true ≡ false = sym c.if-failed.true ∙ c.failed.ensures ∙ ap (λ v. v.failed) c.self.view_is ∙ whole in let never : ⊥ = cc in never)
+
 pub returns-clause-torn : goal.returns-clause-torn
 returns-clause-torn g c is =
     absurd (let both : true ≡ false = sym is ∙ sym (ap (λ v. v.failed) c.self.view_is) ∙ sym c.failed.ensures ∙ c.if-failed.false in let never : ⊥ = cc in never)
@@ -41,3 +45,6 @@ returns-clause-kept g c is =
     subst (λ v. g.K.Sink.faults c.finish.new.self.sink ≡ g.K.Sink.faults v.sink) c.self.view_is
     (said_kept c.finish.result c.is_err.result (g.K.Sink.faults c.self.inside.journal.sink) (g.K.Sink.faults c.finish.new.self.sink) c.is_err.ensures.value
     c.finish.ensures.cause.kept is)
+
+pub returns-clause-unwritten : goal.returns-clause-unwritten
+returns-clause-unwritten g c whole = c.finish.ensures.unwritten
