@@ -3,6 +3,6 @@ mod PairWords
 mod SameKinds
 mod Taking
 mod Progressing
-mod Served
+pub mod Served
 mod Determined
 mod Defaulting

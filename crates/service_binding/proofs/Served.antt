@@ -27,7 +27,7 @@ within_case true i n o h = omega arith
 within_case false i n None h = tt
 within_case false i n (Some k) h = omega (arith, h)
 
-position_within : {A : Type 0} (test : A → Bool) (i : ℕ) (xs : List A) → MatchOption (position_from test i xs) ⊤ (λ k. k < i + length xs)
+pub position_within : {A : Type 0} (test : A → Bool) (i : ℕ) (xs : List A) → MatchOption (position_from test i xs) ⊤ (λ k. k < i + length xs)
 position_within test i [] = tt
 position_within test i (x ∷ xs) = within_case (test x) i (length xs) (position_from test (i + 1) xs) (position_within test (i + 1) xs)
 

@@ -16,7 +16,7 @@ ends_asked words command handlers before after ended is h = subst (λ w. EndsCom
 -- a check, whose name was lent
 pub ends_check : (idl lent : List ℕ) (handlers : List ServiceState) (before after : Surroundings) (ended : Status) → lent ≡ idl
     → MeansCheck before.files.held lent ended (streams_between before after) → SaysCheck before.files.held lent ended (errors_between before after) → IsPlaceKept (place_between before after)
-    → (dialled_between before after).dialled ≡ (dialled_between before after).dialled_before → CountsTell before after ended → EndsCommand (Some (checks idl)) handlers before after ended
+    → (dialled_between before after).dialled ≡ (dialled_between before after).dialled_before → CountsTell before after (Some (checks idl)) ended → EndsCommand (Some (checks idl)) handlers before after ended
 ends_check idl lent handlers before after ended same means says place called counts =
     record {
       means = subst (λ i. MeansCheck before.files.held i ended (streams_between before after)) same means;

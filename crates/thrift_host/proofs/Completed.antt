@@ -1,5 +1,5 @@
--- A command that is well asked, and on whose way nothing fails, is done, or memory runs out.
-use Rattle.std.proofs.Common.{◌≡◌, ℕ, Bool, true, false, List, [], Option, None, Some, Result, Ok, Err, ◌⊎◌, inl, inr, refl, sym, ap, subst, ◌∙◌, true≢false}
+-- A command that is well asked, and on whose way nothing fails, is done, or memory runs out; a call's reply may be refused.
+use Rattle.std.proofs.Common.{◌≡◌, ℕ, Bool, true, false, List, [], Option, None, Some, Result, Ok, Err, IsErr, ◌⊎◌, inl, inr, refl, sym, ap, subst, ◌∙◌, true≢false}
 use Rattle.std.proofs.lemmas.Bool.{false≢true}
 use Rattle.streams.specs.Files.{File}
 use Rattle.call_rules.specs.Handling.{ServiceState}
@@ -7,6 +7,7 @@ use Rattle.schema.specs.PlainSchema.{PlainSchema}
 use Rattle.schema.specs.Sound.{IsSound}
 use Rattle.idl_token.specs.declared.Place.{Place}
 use Rattle.idl_check.specs.declared.kinds.IdlFaultKind.{IdlFaultKind}
+use Rattle.idl_check.specs.Lines.{idl_refusal_text}
 use Rattle.idl_check.specs.Verdicts.{IdlVerdict, accepted, refused, is_the_tutorial, IsVerdictBy, IsIdlVerdict}
 use Rattle.compat_model.specs.Breaks.{PlainBreak, IsCompatible, IsFirstBreak}
 use Rattle.compat_model.specs.StructPairs.{SchemaChange}
@@ -15,19 +16,28 @@ use Rattle.service_binding.specs.Binding.{NumberedName, AreBound}
 use Rattle.service_binding.specs.Defaults.{slot_for_default}
 use Rattle.service_binding.specs.FirstRefusal.{IsRefusedFirst}
 use Rattle.service_binding.specs.Pairs.{NamedKind}
+use Rattle.command_line.specs.Calls.{PlainAsking}
 use Rattle.command_line.specs.Words.{PlainCommand, checks, compares, rehearses, records, serves, runs, calls}
+use Rattle.client_desk.specs.Asking.{asked_frame}
+use Rattle.port_calls.specs.declared.fault.CallRefusal.{CallRefusal}
+use Rattle.port_calls.specs.declared.fault.CallRefusal.TheVariants.{NoService, ArgsText, Unasked}
+use Rattle.port_calls.specs.Called.{CallChange, IsCallUntouched}
+use Rattle.port_calls.specs.Calls.{PlainPortCall, IsSent, IsCallRefused, caller, call_id}
 use Rattle.script_text.specs.Reading.{script_of_text}
+use Rattle.thrift_value.specs.Tree.{Tree}
 use Rattle.recorded_runs.specs.Recorded.{Streams, ScriptReading}
 use Rattle.thrift_host.specs.declared.status.Status.{Status}
 use Rattle.thrift_host.specs.declared.status.Status.TheVariants.{Done, Usage, IdlRefused, ScriptRefused, BindRefused, FileFault, ReadFault, WriteFault, NetFault, JournalFault, NoMemory, CallRefused, ReplyRefused, Incompatible}
 use Rattle.thrift_host.specs.Checks.{AreUntouched, IsRefusedWith, MeansCheck}
 use Rattle.thrift_host.specs.Compats.{MeansCompat}
 use Rattle.thrift_host.specs.Counts.{CountsTell, NoneRose}
-use Rattle.thrift_host.specs.Complete.{IsIdlTold, IsGoodIdl, IsGoodChange, IsRunReady, IsGoodInput, IsWellAsked}
+use Rattle.thrift_host.specs.Calls.{MeansPortCall, port_call_by}
+use Rattle.thrift_host.specs.Complete.{IsIdlTold, IsGoodIdl, IsGoodChange, IsRunReady, IsGoodInput, IsGoodCall, IsWellAsked}
+use Rattle.thrift_host.specs.Errors.{Errors, IsSaid}
 use Rattle.thrift_host.specs.Runs.{AskedRun, IsArranged, ScriptRunning, rehearsing, recording, answering_of, IsUnboundWith, MeansUnarranged, MeansRun}
 use Rattle.thrift_host.specs.Serving.{AskedServing, HostChange, MeansServing}
-use Rattle.thrift_host.specs.Surroundings.{Surroundings, streams_between, change_between}
-use Rattle.thrift_host.specs.Top.{asked_run, asked_place, Means}
+use Rattle.thrift_host.specs.Surroundings.{Surroundings, streams_between, change_between, dialled_between, errors_between}
+use Rattle.thrift_host.specs.Top.{asked_run, asked_place, Means, MeansCalled}
 use Rattle.thrift_host.specs.Workloads.{asked_workload, MeansWorkload}
 
 abbrev pub OneVerdict : Type 0
@@ -53,16 +63,59 @@ abbrev is_read : {A E : Type 0} → Result A E → Bool
 is_read (Ok x) = true
 is_read (Err e) = false
 
--- a status that refuses nothing
+-- a status that refuses nothing that was handed in
 abbrev pub IsNoRefusal : Status → Type 0
 IsNoRefusal Usage = ⊥
 IsNoRefusal IdlRefused = ⊥
 IsNoRefusal ScriptRefused = ⊥
 IsNoRefusal BindRefused = ⊥
 IsNoRefusal CallRefused = ⊥
-IsNoRefusal ReplyRefused = ⊥
 IsNoRefusal Incompatible = ⊥
 IsNoRefusal _ = Unit {0}
+
+-- where no count rose, no fault was met
+no_fault : (before after : Surroundings) (words : Option PlainCommand) (status : Status) → CountsTell before after words status → NoneRose before after → IsNoRefusal status
+    → (status ≡ Done) ⊎ ((status ≡ ReplyRefused) ⊎ (status ≡ NoMemory))
+no_fault before after words Done f none r = inl refl
+no_fault before after words ReplyRefused f none r = inr (inl refl)
+no_fault before after words NoMemory f none r = inr (inr refl)
+no_fault before after words FileFault f none r = absurd (none.files (f.files.rose refl))
+no_fault before after words ReadFault f none r = absurd (none.input (f.input.rose refl))
+no_fault before after words WriteFault f none r = absurd (none.output (f.output.rose refl))
+no_fault before after words NetFault f none r = absurd (none.binder (f.binder.rose refl))
+no_fault before after words JournalFault f none r = absurd (none.sinks (f.sinks.rose refl))
+no_fault before after words Usage f none r = absurd r
+no_fault before after words IdlRefused f none r = absurd r
+no_fault before after words ScriptRefused f none r = absurd r
+no_fault before after words BindRefused f none r = absurd r
+no_fault before after words CallRefused f none r = absurd r
+no_fault before after words Incompatible f none r = absurd r
+
+abbrev some_number : ℕ → Option ℕ
+some_number n = Some n
+
+same_some : (m n : ℕ) → some_number m ≡ some_number n → m ≡ n
+same_some m n e = cc
+
+abbrev a_value : Tree → Result Tree ℕ
+a_value value = Ok value
+
+same_read : (x y : Tree) → a_value x ≡ a_value y → x ≡ y
+same_read x y e = cc
+
+not_both : {A E : Type 0} (r : Result A E) (x : A) (fault : E) → r ≡ Ok x → r ≡ Err fault → ⊥
+not_both r x fault is err = true≢false (ap is_read (sym is ∙ err))
+
+-- a call with a frame isn't refused
+sent_or_refused : (call : PlainPortCall) (refusal : CallRefusal) → IsSent call → IsCallRefused call refusal → ⊥
+sent_or_refused call NoService sent none = let e : Some sent.service ≡ None = sym sent.is_service ∙ none in let f : ⊥ = cc in f
+sent_or_refused call ArgsText sent (service, is, err) = false≢true (subst IsErr sent.is_args err)
+sent_or_refused call (Unasked fault) sent (service, args, is_service, is_args, none) =
+    let services : sent.service ≡ service = same_some sent.service service (sym sent.is_service ∙ is_service) in
+    let values : sent.args ≡ args = same_read sent.args args (sym sent.is_args ∙ is_args) in
+    not_both (asked_frame (caller call service) call.method args call_id) sent.frame fault
+    (subst (λ n. asked_frame (caller call n) call.method args call_id ≡ Ok sent.frame) services
+    (subst (λ v. asked_frame (caller call sent.service) call.method v call_id ≡ Ok sent.frame) values sent.is_frame)) none
 
 -- of the IDL that the program holds files say nothing
 among : (idl : List ℕ) (v : IdlVerdict) → is_the_tutorial idl ≡ true → IsIdlVerdict None idl v → IsIdlVerdict (Some []) idl v
@@ -157,38 +210,41 @@ module _ (one : OneVerdict) (good : BoundIsGood) (never : BreakIsNone) where
   work_goes r seed size s WriteFault ready h = tt
   work_goes r seed size s status ready h = unarranged_goes r s status ready h
 
-  goes : (words : Option PlainCommand) (handlers : List ServiceState) (status : Status) (before after : Surroundings) → Means words handlers status (change_between before after)
-      → IsWellAsked words handlers before → IsNoRefusal status
-  goes (Some (checks idl)) handlers status before after h asked = check_goes before.files.held idl (streams_between before after) status asked h
-  goes (Some (compares old new)) handlers status before after h asked = compat_goes before.files.held old new (streams_between before after) status asked h
-  goes (Some (rehearses says)) handlers status before after h asked =
-      run_goes rehearsing (asked_run says before.files.held handlers) (script_of_text says.workers true) (λ a. refl) (streams_between before after) status asked.0 asked.1 h
-  goes (Some (records says)) handlers status before after h asked =
-      run_goes recording (asked_run says before.files.held handlers) (script_of_text says.workers false) (λ a. refl) (streams_between before after) status asked.0 asked.1 h
-  goes (Some (serves says port accept journal)) handlers status before after h asked =
-      serve_goes (record { run = asked_run says before.files.held handlers; place = asked_place port accept journal }) (change_between before after) status asked h.1
-  goes (Some (runs seed size workers)) handlers status before after h asked =
-      work_goes (asked_workload workers before.files.held handlers) seed size (streams_between before after) status asked h
-  goes (Some (calls asking)) handlers status before after h asked = absurd asked
-  goes None handlers status before after h asked = absurd asked
+  -- a call with a frame is made
+  call_goes : (files : Option (List File)) (asking : PlainAsking) (c : CallChange) (e : Errors) (status : Status) → IsGoodCall files asking
+      → MeansPortCall files asking status c e → IsNoRefusal status
+  call_goes files asking c e Usage asked h = absurd h
+  call_goes files asking c e IdlRefused asked h =
+      absurd (not_refused files asking.idl asked.idl.schema (λ file at kind. IsCallUntouched c × IsSaid e (idl_refusal_text file at kind)) asked.idl.told asked.idl.verdict h)
+  call_goes files asking c e ScriptRefused asked h = absurd h
+  call_goes files asking c e BindRefused asked h = absurd h
+  call_goes files asking c e Incompatible asked h = absurd h
+  call_goes files asking c e CallRefused asked (refusal, (schema, has, fault), said) =
+      let same : asked.idl.schema ≡ schema =
+      ap (schema_or schema) (one_told files asking.idl (accepted asked.idl.schema) (accepted schema) asked.idl.told asked.idl.verdict has.verdict) in
+      absurd (sent_or_refused (port_call_by asking schema) refusal (subst (λ s. IsSent (port_call_by asking s)) same asked.sent) fault.0)
+  call_goes files asking c e _ asked h = tt
 
-  pub only_done : (words : Option PlainCommand) (handlers : List ServiceState) (status : Status) (before after : Surroundings)
-      → Means words handlers status (change_between before after) → CountsTell before after status → IsWellAsked words handlers before → NoneRose before after
-      → (status ≡ Done) ⊎ (status ≡ NoMemory)
-  only_done words handlers status before after h shows asked none = by status shows (goes words handlers status before after h asked)
-    where
-      by : (ended : Status) → CountsTell before after ended → IsNoRefusal ended → (ended ≡ Done) ⊎ (ended ≡ NoMemory)
-      by Done f r = inl refl
-      by NoMemory f r = inr refl
-      by FileFault f r = absurd (none.files (f.files refl))
-      by ReadFault f r = absurd (none.input (f.input refl))
-      by WriteFault f r = absurd (none.output (f.output refl))
-      by NetFault f r = absurd (none.binder (f.binder refl))
-      by JournalFault f r = absurd (none.sinks (f.sinks refl))
-      by Usage f r = absurd r
-      by IdlRefused f r = absurd r
-      by ScriptRefused f r = absurd r
-      by BindRefused f r = absurd r
-      by CallRefused f r = absurd r
-      by ReplyRefused f r = absurd r
-      by Incompatible f r = absurd r
+  pub ends_well : (words : Option PlainCommand) (handlers : List ServiceState) (status : Status) (before after : Surroundings)
+      → Means words handlers status (change_between before after) → MeansCalled words before.files.held status (dialled_between before after) (errors_between before after)
+      → CountsTell before after words status → IsWellAsked words handlers before → NoneRose before after → (status ≡ Done) ⊎ ((status ≡ ReplyRefused) ⊎ (status ≡ NoMemory))
+  ends_well (Some (checks idl)) handlers status before after h called shows asked none =
+      no_fault before after (Some (checks idl)) status shows none (check_goes before.files.held idl (streams_between before after) status asked h)
+  ends_well (Some (compares old new)) handlers status before after h called shows asked none =
+      no_fault before after (Some (compares old new)) status shows none (compat_goes before.files.held old new (streams_between before after) status asked h)
+  ends_well (Some (rehearses says)) handlers status before after h called shows asked none =
+      no_fault before after (Some (rehearses says)) status shows none
+      (run_goes rehearsing (asked_run says before.files.held handlers) (script_of_text says.workers true) (λ a. refl) (streams_between before after) status asked.0 asked.1 h)
+  ends_well (Some (records says)) handlers status before after h called shows asked none =
+      no_fault before after (Some (records says)) status shows none
+      (run_goes recording (asked_run says before.files.held handlers) (script_of_text says.workers false) (λ a. refl) (streams_between before after) status asked.0 asked.1 h)
+  ends_well (Some (serves says port accept journal)) handlers status before after h called shows asked none =
+      no_fault before after (Some (serves says port accept journal)) status shows none
+      (serve_goes (record { run = asked_run says before.files.held handlers; place = asked_place port accept journal }) (change_between before after) status asked h.1)
+  ends_well (Some (runs seed size workers)) handlers status before after h called shows asked none =
+      no_fault before after (Some (runs seed size workers)) status shows none
+      (work_goes (asked_workload workers before.files.held handlers) seed size (streams_between before after) status asked h)
+  ends_well (Some (calls asking)) handlers status before after h called shows asked none =
+      no_fault before after (Some (calls asking)) status shows none
+      (call_goes before.files.held asking (dialled_between before after) (errors_between before after) status asked called)
+  ends_well None handlers status before after h called shows asked none = absurd asked

@@ -1,71 +1,70 @@
--- A command is done only where what it came to is Ok.
-use Rattle.std.proofs.Common.{◌≡◌, Result, Ok, Err, sym, subst, inl, inr}
-use Rattle.std.specs.Prelude.{⊤, OnOk}
+-- What the status that a command ends with rules out of what it came to.
+use Rattle.std.proofs.Common.{◌≡◌, ◌≢◌, false, Result, Ok, Err, refl, sym, subst}
 use Rattle.command_line.specs.Served.{PlainServed}
 use Rattle.idl_check.specs.declared.refusal.NoSchema.{NoSchema}
 use Rattle.idl_check.specs.declared.refusal.NoSchema.TheVariants as reasons
-use Rattle.port_serving.specs.declared.fault.PortFault.{PortFault}
+use Rattle.idl_check.specs.Telling.{is_file_fault}
+use Rattle.port_calls.specs.declared.fault.CallFault.{CallFault}
+use Rattle.port_calls.specs.declared.fault.CallFault.TheVariants as call_faults
 use Rattle.port_serving.specs.declared.fault.PortFault.TheVariants as port_faults
-use Rattle.recorded_runs.specs.declared.fault.ServingFault.{ServingFault}
 use Rattle.recorded_runs.specs.declared.fault.ServingFault.TheVariants as serving_faults
-use Rattle.service_binding.specs.declared.fault.BindFault.{BindFault}
-use Rattle.service_binding.specs.declared.fault.BindFault.TheVariants as bind_faults
 use Rattle.thrift_host.specs.declared.status.Status.{Status}
-use Rattle.thrift_host.specs.declared.status.Status.TheVariants.{Done}
+use Rattle.thrift_host.specs.declared.status.Status.TheVariants.{FileFault, ReadFault, WriteFault, NetFault}
 use Rattle.thrift_host.specs.declared.arranging.RunFault.{RunFault}
 use Rattle.thrift_host.specs.declared.arranging.RunFault.TheVariants as faults
-use Rattle.thrift_host.specs.declared.serving.ServeFault.{ServeFault}
-use Rattle.thrift_host.specs.declared.serving.ServeFault.TheVariants as serve_faults
+use Rattle.thrift_host.specs.CallSteps.{EndsAfterCall}
+use Rattle.thrift_host.specs.Counts.{GoesOn}
 use Rattle.thrift_host.specs.Errors.{Errors}
-use Rattle.thrift_host.specs.Steps.{EndsWithout, EndsUnbound, EndsUnanswered, EndsAfterRun, EndsAfterServing, status_of_port}
+use Rattle.thrift_host.specs.Steps.{EndsWithout, EndsAfterRun, is_file_missed, serves_on}
 
--- the status that says so
-abbrev IsDone : Status → Type 0
-IsDone Done = ⊤
-IsDone _ = ⊥
+module _ (ended : Status) (e : Errors) where
+  -- a file of an IDL that couldn't be read
+  pub read_reason : (reason : NoSchema) → EndsWithout reason ended e → ended ≢ FileFault → is_file_fault reason ≡ false
+  read_reason (reasons.Refused refusal) ends not_it = refl
+  read_reason reasons.FileFault ends not_it = absurd (not_it ends.0)
+  read_reason reasons.NoMemory ends not_it = refl
 
-module _ (ended : Status) (e : Errors) (done : IsDone ended) where
-  not_without : (reason : NoSchema) → EndsWithout reason ended e → ⊥
-  not_without (reasons.Refused f) (inl h) = subst IsDone h.0 done
-  not_without (reasons.Refused f) (inr h) = subst IsDone h.0 done
-  not_without reasons.FileFault h = subst IsDone h.0 done
-  not_without reasons.NoMemory h = subst IsDone h.0 done
+  module _ {A : Type 0} (says : PlainServed) where
+    pub read_run : (came_to : Result A RunFault) → EndsAfterRun says came_to ended e → ended ≢ FileFault → is_file_missed came_to ≡ false
+    read_run (Ok x) ends not_it = refl
+    read_run (Err (faults.NoSchema reason)) ends not_it = read_reason reason ends not_it
+    read_run (Err (faults.Unbound fault)) ends not_it = refl
+    read_run (Err (faults.Unanswered fault)) ends not_it = refl
+    read_run (Err (faults.Unserved port_faults.FileFault)) ends not_it = absurd (not_it ends.0)
+    read_run (Err (faults.Unserved port_faults.NetFault)) ends not_it = refl
+    read_run (Err (faults.Unserved port_faults.WriteFault)) ends not_it = refl
+    read_run (Err (faults.Unserved port_faults.JournalFault)) ends not_it = refl
+    read_run (Err (faults.Unserved port_faults.NoMemory)) ends not_it = refl
 
-  not_unbound : (says : PlainServed) (fault : BindFault) → EndsUnbound says fault ended e → ⊥
-  not_unbound says (bind_faults.Refused place kind) (inl h) = subst IsDone h.0 done
-  not_unbound says (bind_faults.Refused place kind) (inr h) = subst IsDone h.0 done
-  not_unbound says bind_faults.NoMemory h = subst IsDone h.0 done
+    -- an input that couldn't be read
+    pub input_read : (came_to : Result A RunFault) → EndsAfterRun says came_to ended e → ended ≢ ReadFault → came_to ≢ Err (faults.Unanswered serving_faults.ReadFault)
+    input_read came_to ends not_it is = not_it (subst (λ r. EndsAfterRun says r ended e) is ends).0
 
-  not_unanswered : (fault : ServingFault) → EndsUnanswered fault ended e → ⊥
-  not_unanswered (serving_faults.NoScript fault) (inl h) = subst IsDone h.0 done
-  not_unanswered (serving_faults.NoScript fault) (inr h) = subst IsDone h.0 done
-  not_unanswered serving_faults.ReadFault h = subst IsDone h.0 done
-  not_unanswered serving_faults.WriteFault h = subst IsDone h.0 done
-  not_unanswered serving_faults.JournalFault h = subst IsDone h.0 done
-  not_unanswered serving_faults.NoMemory h = subst IsDone h.0 done
+    -- an output that couldn't be written
+    pub output_written : (came_to : Result A RunFault) → EndsAfterRun says came_to ended e → ended ≢ WriteFault
+        → came_to ≢ Err (faults.Unanswered serving_faults.WriteFault)
+    output_written came_to ends not_it is = not_it (subst (λ r. EndsAfterRun says r ended e) is ends).0
 
-  not_unserved : (fault : PortFault) → ended ≡ status_of_port fault → ⊥
-  not_unserved port_faults.FileFault is = subst IsDone is done
-  not_unserved port_faults.NetFault is = subst IsDone is done
-  not_unserved port_faults.WriteFault is = subst IsDone is done
-  not_unserved port_faults.JournalFault is = subst IsDone is done
-  not_unserved port_faults.NoMemory is = subst IsDone is done
+  -- the same of a call, and of the net
+  pub line_written : {A : Type 0} (came_to : Result A CallFault) → EndsAfterCall came_to ended e → ended ≢ WriteFault → came_to ≢ Err call_faults.WriteFault
+  line_written came_to ends not_it is = not_it (subst (λ r. EndsAfterCall r ended e) is ends).0
 
--- an IDL without a schema is never done
-pub never_done : (reason : NoSchema) (ended : Status) (e : Errors) → EndsWithout reason ended e → ended ≡ Done → ⊥
-never_done reason ended e ends is = not_without ended e (subst IsDone (sym is) tt) reason ends
+  pub net_held : {A : Type 0} (came_to : Result A CallFault) → EndsAfterCall came_to ended e → ended ≢ NetFault → came_to ≢ Err call_faults.NetFault
+  net_held came_to ends not_it is = not_it (subst (λ r. EndsAfterCall r ended e) is ends).0
 
--- what an Ok run says, where the command is done
-pub done_run : {A P : Type 0} (says : PlainServed) (came_to : Result A RunFault) (ended : Status) (e : Errors) → EndsAfterRun says came_to ended e → ended ≡ Done → OnOk came_to P → P
-done_run says (Ok x) ended e ends is p = p
-done_run says (Err (faults.NoSchema reason)) ended e ends is p = absurd (not_without ended e (subst IsDone (sym is) tt) reason ends)
-done_run says (Err (faults.Unbound fault)) ended e ends is p = absurd (not_unbound ended e (subst IsDone (sym is) tt) says fault ends)
-done_run says (Err (faults.Unanswered fault)) ended e ends is p = absurd (not_unanswered ended e (subst IsDone (sym is) tt) fault ends)
+  -- serving that went on after a fault
+  pub served_on : {A : Type 0} (says : PlainServed) (came_to : Result A RunFault) → EndsAfterRun says came_to ended e → (GoesOn ended → ⊥) → serves_on came_to ≡ false
+  served_on says (Ok x) ends over = refl
+  served_on says (Err (faults.NoSchema reason)) ends over = refl
+  served_on says (Err (faults.Unbound fault)) ends over = refl
+  served_on says (Err (faults.Unanswered fault)) ends over = refl
+  served_on says (Err (faults.Unserved port_faults.FileFault)) ends over = refl
+  served_on says (Err (faults.Unserved port_faults.NetFault)) ends over = absurd (over (subst GoesOn (sym ends.0) tt))
+  served_on says (Err (faults.Unserved port_faults.WriteFault)) ends over = refl
+  served_on says (Err (faults.Unserved port_faults.JournalFault)) ends over = absurd (over (subst GoesOn (sym ends.0) tt))
+  served_on says (Err (faults.Unserved port_faults.NoMemory)) ends over = absurd (over (subst GoesOn (sym ends.0) tt))
 
--- the same of serving
-pub done_serving : {A P : Type 0} (says : PlainServed) (came_to : Result A ServeFault) (ended : Status) (e : Errors) → EndsAfterServing says came_to ended e → ended ≡ Done → OnOk came_to P → P
-done_serving says (Ok x) ended e ends is p = p
-done_serving says (Err (serve_faults.Unarranged (faults.NoSchema reason))) ended e ends is p = absurd (not_without ended e (subst IsDone (sym is) tt) reason ends)
-done_serving says (Err (serve_faults.Unarranged (faults.Unbound fault))) ended e ends is p = absurd (not_unbound ended e (subst IsDone (sym is) tt) says fault ends)
-done_serving says (Err (serve_faults.Unarranged (faults.Unanswered fault))) ended e ends is p = absurd (not_unanswered ended e (subst IsDone (sym is) tt) fault ends)
-done_serving says (Err (serve_faults.Unserved fault)) ended e ends is p = absurd (not_unserved ended e (subst IsDone (sym is) tt) fault ends.0)
+  -- a summary that couldn't be written
+  pub summary_written : {A : Type 0} (says : PlainServed) (came_to : Result A RunFault) → EndsAfterRun says came_to ended e → ended ≢ WriteFault
+      → came_to ≢ Err (faults.Unserved port_faults.WriteFault)
+  summary_written says came_to ends not_it is = not_it (subst (λ r. EndsAfterRun says r ended e) is ends).0

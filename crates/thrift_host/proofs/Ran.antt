@@ -8,6 +8,7 @@ use Rattle.idl_check.specs.Telling.{TellsWhy}
 use Rattle.service_binding.specs.declared.fault.BindFault.{BindFault}
 use Rattle.service_binding.specs.declared.fault.BindFault.TheVariants as bind_faults
 use Rattle.service_binding.specs.FirstRefusal.{IsRefusedFirst, OnRefusal}
+use Rattle.port_serving.specs.declared.fault.PortFault.{PortFault}
 use Rattle.recorded_runs.specs.declared.fault.ServingFault.{ServingFault}
 use Rattle.recorded_runs.specs.declared.fault.ServingFault.TheVariants as serving_faults
 use Rattle.recorded_runs.specs.Recorded.{Streams, MeansRecordedFault}
@@ -127,6 +128,7 @@ module _ (way : ScriptRunning) (r : AskedRun) (ended : Status) (s : Streams) (e 
   run_means (Err (faults.NoSchema reason)) (why, untouched) h = unarranged_means way r s ended (without_schema_means r ended s e reason why untouched h)
   run_means (Err (faults.Unbound fault)) (at, untouched) h = unarranged_means way r s ended (unbound_means r ended s e fault at untouched h)
   run_means (Err (faults.Unanswered fault)) tells h = unanswered_means fault tells h
+  run_means (Err (faults.Unserved fault)) (why, untouched) h = absurd why
 
   pub run_said : {A : Type 0} (result : Result A RunFault) → TellsRun way r result s → EndsAfterRun r.says result ended e
       → SaysRun way r ended s e
@@ -134,17 +136,24 @@ module _ (way : ScriptRunning) (r : AskedRun) (ended : Status) (s : Streams) (e 
   run_said (Err (faults.NoSchema reason)) tells h = unarranged_said way r s e ended (without_schema_said r ended e reason tells.0 h)
   run_said (Err (faults.Unbound fault)) tells h = unarranged_said way r s e ended (unbound_said r ended e fault tells.0 h)
   run_said (Err (faults.Unanswered fault)) tells h = unanswered_said fault tells h
+  run_said (Err (faults.Unserved fault)) tells h = absurd tells.0
 
 -- a run that isn't arranged, and read and wrote nothing
 pub untouched_fault : (way : ScriptRunning) (r : AskedRun) (fault : RunFault) (s : Streams) → TellsUnarranged r fault → AreUntouched s → TellsFault way r fault s
 untouched_fault way r (faults.NoSchema reason) s why untouched = (why, untouched)
 untouched_fault way r (faults.Unbound fault) s why untouched = (why, untouched)
 untouched_fault way r (faults.Unanswered fault) s why untouched = absurd why
+untouched_fault way r (faults.Unserved fault) s why untouched = absurd why
 
 -- whose fault is none of a recording
 pub not_unanswered : {A : Type 0} (r : AskedRun) (result : Result A RunFault) (other : ServingFault)
     → MatchResult result (λ _. ⊤) (λ fault. TellsUnarranged r fault) → result ≡ Err (faults.Unanswered other) → ⊥
 not_unanswered r result other why is = subst (λ x. MatchResult x (λ _. ⊤) (λ fault. TellsUnarranged r fault)) is why
+
+-- nor is it one of a port
+pub not_unserved : {A : Type 0} (r : AskedRun) (result : Result A RunFault) (other : PortFault)
+    → MatchResult result (λ _. ⊤) (λ fault. TellsUnarranged r fault) → result ≡ Err (faults.Unserved other) → ⊥
+not_unserved r result other why is = subst (λ x. MatchResult x (λ _. ⊤) (λ fault. TellsUnarranged r fault)) is why
 
 -- it ends with no fault of the net or of a journal
 module _ (way : ScriptRunning) (r : AskedRun) (s : Streams) (ended : Status) (means : MeansRun way r ended s) where

@@ -1,5 +1,5 @@
 -- What answers say of values that are known.
-use Rattle.std.proofs.Common.{◌≡◌, ℕ, true, List, Option, Result, Ok, Err, refl, sym, ◌∙◌, subst}
+use Rattle.std.proofs.Common.{◌≡◌, ◌≢◌, ℕ, true, false, true≢false, List, Option, Result, Ok, Err, refl, sym, ap, ◌∙◌, subst}
 use Rattle.std.specs.Prelude.{OnOk}
 use Rattle.streams.specs.Files.{File}
 use Rattle.port_serving.specs.Places.{PlaceChange}
@@ -13,13 +13,12 @@ use Rattle.recorded_runs.specs.declared.fault.ServingFault.{ServingFault}
 use Rattle.workload.specs.ExpectedRun.{work_text}
 use Rattle.thrift_host.specs.declared.arranging.RunFault.{RunFault}
 use Rattle.thrift_host.specs.declared.arranging.RunFault.TheVariants as faults
-use Rattle.thrift_host.specs.declared.serving.ServeFault.{ServeFault}
-use Rattle.thrift_host.specs.declared.serving.ServeFault.TheVariants as serve_faults
 use Rattle.thrift_host.specs.Runs.{ScriptRunning, AskedRun, IsAnsweredBy, answering_at}
-use Rattle.port_serving.specs.Answered.{HasServedAll, MeansPortFault, MeansServedPort}
+use Rattle.port_serving.specs.Answered.{HasServedAll, MeansPortFault, MeansServedPort, went_on}
 use Rattle.port_serving.specs.declared.fault.PortFault.{PortFault}
+use Rattle.port_serving.specs.declared.fault.PortFault.TheVariants as port_faults
 use Rattle.thrift_host.specs.Serving.{AskedServing, HostChange, IsServedBy, IsAllServed, IsUnservedFor, setting_at, output_of}
-use Rattle.thrift_host.specs.Steps.{IsArrangedAs, TellsRun, TellsWorkload, TellsServing, of_recording, of_port, is_unread_file}
+use Rattle.thrift_host.specs.Steps.{IsArrangedAs, TellsRun, TellsWorkload, TellsServing, of_recording, of_port, is_file_missed, serves_on}
 
 -- what holds of an office and of services that are those of an arrangement holds of what answers by it
 pub at_arranged : (r : AskedRun) (office : PlainOffice) (services : List ServiceState) → IsArrangedAs r office services → (Holds : Answering → Type 0)
@@ -50,10 +49,10 @@ module _ {A : Type 0} (answered : Result A ServingFault) (result : Result A RunF
       by (Ok x) h = (refl, h)
       by (Err fault) h = (refl, h)
 
-  pub run_reads : is_unread_file result ≡ true → ⊥
-  run_reads unread = by answered (subst (λ x. is_unread_file x ≡ true) same unread)
+  pub run_reads : is_file_missed result ≡ true → ⊥
+  run_reads unread = by answered (subst (λ x. is_file_missed x ≡ true) same unread)
     where
-      by : (came_to : Result A ServingFault) → is_unread_file (of_recording came_to) ≡ true → ⊥
+      by : (came_to : Result A ServingFault) → is_file_missed (of_recording came_to) ≡ true → ⊥
       by (Ok x) e = cc
       by (Err fault) e = cc
 
@@ -64,12 +63,8 @@ module _ {A : Type 0} (answered : Result A ServingFault) (result : Result A RunF
       by (Ok x) e = cc
       by (Err other) e = cc
 
-  pub run_kept : (P : Type 0) → OnOk answered P → OnOk result P
-  run_kept P kept = subst (λ x. OnOk x P) (sym same) (by answered kept)
-    where
-      by : (came_to : Result A ServingFault) → OnOk came_to P → OnOk (of_recording came_to) P
-      by (Ok x) p = p
-      by (Err fault) p = tt
+  pub run_isnt : (fault : ServingFault) → result ≢ Err (faults.Unanswered fault) → answered ≢ Err fault
+  run_isnt fault not_it is = not_it (same ∙ ap of_recording is)
 
 -- and what holds of what serves by them
 pub served_at : (r : AskedRun) (office : PlainOffice) (services : List ServiceState) → IsArrangedAs r office services → (Holds : ServerSetting → Type 0)
@@ -100,7 +95,7 @@ module _ (a : AskedServing) (office : PlainOffice) (services : List ServiceState
       served_at a.run office services made (λ s. MeansPortFault s a.place at (output_of c) fault)
       (from_before c.place files faults files_is faults_is (λ p. MeansPortFault (setting_at a.run office services) a.place p (output_of c) fault) h)
 
-  pub serving_tells : {A : Type 0} (came_to : Result A PortFault) (result : Result A ServeFault) → result ≡ of_port came_to
+  pub serving_tells : {A : Type 0} (came_to : Result A PortFault) (result : Result A RunFault) → result ≡ of_port came_to
       → MeansServedPort (setting_at a.run office services) a.place c.place (output_of c) came_to → TellsServing a result (record c { place = at })
   serving_tells {A} came_to result same means = subst (λ x. TellsServing a x (record c { place = at })) (sym same) (by came_to means)
     where
@@ -110,17 +105,23 @@ module _ (a : AskedServing) (office : PlainOffice) (services : List ServiceState
       by (Err fault) h = unserved fault h
 
 -- What serving comes to, by what the port came to.
-module _ {A : Type 0} (came_to : Result A PortFault) (result : Result A ServeFault) (same : result ≡ of_port came_to) where
-  pub port_fault : (fault : PortFault) → result ≡ Err (serve_faults.Unserved fault) → came_to ≡ Err fault
+module _ {A : Type 0} (came_to : Result A PortFault) (result : Result A RunFault) (same : result ≡ of_port came_to) where
+  pub port_fault : (fault : PortFault) → result ≡ Err (faults.Unserved fault) → came_to ≡ Err fault
   port_fault fault is = by came_to (sym same ∙ is)
     where
-      by : (port : Result A PortFault) → of_port port ≡ Err (serve_faults.Unserved fault) → port ≡ Err fault
+      by : (port : Result A PortFault) → of_port port ≡ Err (faults.Unserved fault) → port ≡ Err fault
       by (Ok x) e = cc
       by (Err other) e = cc
 
-  pub port_kept : (P : Type 0) → OnOk came_to P → OnOk result P
-  port_kept P kept = subst (λ x. OnOk x P) (sym same) (by came_to kept)
+  pub port_isnt : (fault : PortFault) → result ≢ Err (faults.Unserved fault) → came_to ≢ Err fault
+  port_isnt fault not_it is = not_it (same ∙ ap of_port is)
+
+  pub port_read : is_file_missed result ≡ false → came_to ≢ Err port_faults.FileFault
+  port_read none is = true≢false (sym (ap is_file_missed (same ∙ ap of_port is)) ∙ none)
+
+  pub port_over : serves_on result ≡ false → went_on came_to ≡ false
+  port_over over = by came_to (sym (ap serves_on same) ∙ over)
     where
-      by : (port : Result A PortFault) → OnOk port P → OnOk (of_port port) P
-      by (Ok x) p = p
-      by (Err fault) p = tt
+      by : (port : Result A PortFault) → serves_on (of_port port) ≡ false → went_on port ≡ false
+      by (Ok x) none = refl
+      by (Err fault) none = none

@@ -34,6 +34,7 @@ use Rattle.thrift_host.specs.Errors.{Errors}
 use Rattle.thrift_host.specs.Runs.{AskedRun, arranged_office, MeansUnarranged, SaysUnarranged}
 use Rattle.thrift_host.specs.Workloads.{calculator_pairs, workload_says, asked_workload, has_calculator, MeansWorkload}
 use Rattle.thrift_host.specs.Steps.{EndsUnanswered, EndsAfterRun, IsArrangedAs, TellsUnarranged, TellsUnworked, TellsWorkload}
+use Rattle.thrift_host.proofs.Served.{IsWriteFault, not_without_schema, not_unbound}
 use Rattle.thrift_host.proofs.Ran.{without_schema_means, unbound_means, without_schema_said, unbound_said}
 
 module _ (r : AskedRun) (seed size : ℕ) (ended : Status) (s : Streams) (e : Errors) where
@@ -71,6 +72,7 @@ module _ (r : AskedRun) (seed size : ℕ) (ended : Status) (s : Streams) (e : Er
   workload_means (Err (faults.NoSchema reason)) (why, untouched) h = unarranged_workload ended (without_schema_means r ended s e reason why untouched h)
   workload_means (Err (faults.Unbound fault)) (at, untouched) h = unarranged_workload ended (unbound_means r ended s e fault at untouched h)
   workload_means (Err (faults.Unanswered fault)) tells h = unanswered_workload fault tells h
+  workload_means (Err (faults.Unserved fault)) tells h = absurd tells.0
 
   said : (status : Status) → ended ≡ status → SaysUnarranged r status e → SaysUnarranged r ended e
   said status is h = subst (λ status. SaysUnarranged r status e) (sym is) h
@@ -89,6 +91,25 @@ module _ (r : AskedRun) (seed size : ℕ) (ended : Status) (s : Streams) (e : Er
   workload_said (Err (faults.NoSchema reason)) tells h = without_schema_said r ended e reason tells.0 h
   workload_said (Err (faults.Unbound fault)) tells h = unbound_said r ended e fault tells.0 h
   workload_said (Err (faults.Unanswered fault)) tells h = unanswered_said fault tells h
+  workload_said (Err (faults.Unserved fault)) tells h = absurd tells.0
+
+-- a write fault comes of the summary
+module _ (r : AskedRun) (seed size : ℕ) (ended : Status) (s : Streams) (e : Errors) (writes : IsWriteFault ended) where
+  unsummed : (fault : ServingFault) → (s.left ≡ s.left_before) × EndsSummary fault (work_text seed size) s.taken_before s.taken → EndsUnanswered fault ended e
+      → fault ≡ serving_faults.WriteFault
+  unsummed (serving_faults.NoScript fault) (unread, h) is = absurd h
+  unsummed serving_faults.ReadFault (unread, h) is = absurd h
+  unsummed serving_faults.WriteFault h is = refl
+  unsummed serving_faults.JournalFault h is = absurd (subst IsWriteFault is.0 writes)
+  unsummed serving_faults.NoMemory h is = absurd (subst IsWriteFault is.0 writes)
+
+  pub workload_unwritten : {A : Type 0} (result : Result A RunFault) → TellsWorkload r seed size result s → EndsAfterRun r.says result ended e
+      → result ≡ Err (faults.Unanswered serving_faults.WriteFault)
+  workload_unwritten (Ok x) tells h = absurd (subst IsWriteFault h.0 writes)
+  workload_unwritten (Err (faults.NoSchema reason)) tells h = absurd (not_without_schema ended e writes reason h)
+  workload_unwritten (Err (faults.Unbound fault)) tells h = absurd (not_unbound ended e writes r.says fault h)
+  workload_unwritten (Err (faults.Unanswered fault)) tells h = ap (λ f. Err (faults.Unanswered f)) (unsummed fault tells h)
+  workload_unwritten (Err (faults.Unserved fault)) tells h = absurd tells.0
 
 calculator_kind : (kind : Kind) → same_kind Calculator kind ≡ true → kind ≡ Calculator
 calculator_kind Calculator e = refl
@@ -159,6 +180,7 @@ unworked : (r : AskedRun) (fault : RunFault) → TellsUnarranged r fault → Tel
 unworked r (faults.NoSchema reason) h = h
 unworked r (faults.Unbound fault) h = h
 unworked r (faults.Unanswered fault) h = absurd h
+unworked r (faults.Unserved fault) h = absurd h
 
 -- what binding the pairs comes to, where the schema has the calculator
 pub worked_out : {A : Type 0} (result : Result A RunFault) (office : A → PlainOffice) (services : A → List ServiceState) (says : PlainServed) (workers : ℕ)
@@ -180,6 +202,7 @@ untouched_workload r seed size (faults.NoSchema reason) left taken h = (h, (refl
 untouched_workload r seed size (faults.Unbound fault) left taken h = (h, (refl, refl))
 untouched_workload r seed size (faults.Unanswered serving_faults.NoMemory) left taken h = (refl, refl)
 untouched_workload r seed size (faults.Unanswered fault) left taken h = absurd h
+untouched_workload r seed size (faults.Unserved fault) left taken h = absurd h
 
 -- what a workload serves is within the bounds of words
 pub workload_bounds : (says : PlainServed) (workers : ℕ) → says ≡ workload_says workers → workers ≤ 8 → KeepsServedBounds says

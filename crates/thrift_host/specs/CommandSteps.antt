@@ -13,4 +13,4 @@ pub record EndsCommand (command : Option PlainCommand) (handlers : List ServiceS
   pub said : Says command handlers status (change_between before after) (errors_between before after)
   pub called : MeansCalled command before.files.held status (dialled_between before after) (errors_between before after)
   pub kept : KeepsPlace command (change_between before after).place
-  pub counts : CountsTell before after status
+  pub counts : CountsTell before after command status

@@ -1,14 +1,17 @@
--- Commands that can't but be done, where nothing fails and memory suffices.
+-- Commands that can't but be done, where nothing fails and memory suffices; a call's reply may be refused all the same.
 use Rattle.std.specs.Prelude.{◌≡◌, ◌⊎◌, ℕ, true, false, List, Option, None, Some, IsSome, Ok}
 use Rattle.streams.specs.Files.{File}
 use Rattle.call_rules.specs.Handling.{ServiceState}
 use Rattle.schema.specs.PlainSchema.{PlainSchema}
 use Rattle.idl_check.specs.Verdicts.{accepted, is_the_tutorial, IsIdlVerdict}
 use Rattle.compat_model.specs.Breaks.{IsCompatible}
+use Rattle.command_line.specs.Calls.{PlainAsking}
 use Rattle.command_line.specs.Words.{PlainCommand, checks, compares, rehearses, records, serves, runs, calls}
 use Rattle.script_model.specs.ScriptLines.{ScriptPlan}
 use Rattle.script_text.specs.Reading.{script_of_text}
+use Rattle.port_calls.specs.Calls.{IsSent}
 use Rattle.recorded_runs.specs.Recorded.{ScriptReading}
+use Rattle.thrift_host.specs.Calls.{port_call_by}
 use Rattle.thrift_host.specs.Runs.{AskedRun, IsArranged}
 use Rattle.thrift_host.specs.Surroundings.{Surroundings}
 use Rattle.thrift_host.specs.Workloads.{asked_workload}
@@ -42,8 +45,12 @@ pub record IsGoodInput (script_in : ScriptReading) (left_before : Option (List �
   pub told : left_before ≡ Some text
   pub is_script : script_in text ≡ Ok script
 
--- The words are a command, and what it needs is there: what can be wrong with IDL, pairs, default, handlers and input isn't. What a call needs stands elsewhere, since a reply may
--- be refused.
+-- a call has a frame: its IDL is told and accepted, it asks for a service and a method of that, and its arguments are a value that the method takes and that fits a frame
+pub record IsGoodCall (files : Option (List File)) (asking : PlainAsking) : Type 0 where
+  pub idl : IsGoodIdl files asking.idl
+  pub sent : IsSent (port_call_by asking idl.schema)
+
+-- The words are a command, and what it needs is there: what can be wrong with IDL, pairs, default, handlers, input and arguments isn't.
 abbrev pub IsWellAsked : Option PlainCommand → List ServiceState → Surroundings → Type 0
 IsWellAsked (Some (checks idl)) handlers before = IsGoodIdl before.files.held idl
 IsWellAsked (Some (compares old new)) handlers before = IsGoodChange before.files.held old new
@@ -53,5 +60,5 @@ IsWellAsked (Some (records says)) handlers before =
     IsRunReady (asked_run says before.files.held handlers) × IsGoodInput (script_of_text says.workers false) before.input.left
 IsWellAsked (Some (serves says port accept journal)) handlers before = IsRunReady (asked_run says before.files.held handlers)
 IsWellAsked (Some (runs seed size workers)) handlers before = IsRunReady (asked_workload workers before.files.held handlers)
-IsWellAsked (Some (calls asking)) handlers before = ⊥
+IsWellAsked (Some (calls asking)) handlers before = IsGoodCall before.files.held asking
 IsWellAsked None handlers before = ⊥

@@ -1,6 +1,6 @@
 -- What is promised of serving connections at a port.
 use Rattle.std.specs.Prelude.{◌≡◌, ◌⊎◌, ℕ, List, Option}
-use Rattle.outside.specs.Binding.{PastLinks}
+use Rattle.outside.specs.Binding.{PastLinks, HandedOut}
 use Rattle.streams.specs.Files.{File}
 use Rattle.call_rules.specs.Handling.{ServiceState}
 use Rattle.call_model.specs.Offices.{PlainOffice}
@@ -27,8 +27,9 @@ pub record HostChange : Type 0 where
   pub place : PlaceChange
 
 -- what it did to the files and the binder, by what each was before and is then
-abbrev pub place_change : (files_before files : Option (List File)) (sink_faults_before sink_faults : ℕ) (past_before past : Option (List PastLinks)) → PlaceChange
-place_change files_before files sink_faults_before sink_faults past_before past =
+abbrev pub place_change : (files_before files : Option (List File)) (sink_faults_before sink_faults : ℕ) (past_before past : Option (List PastLinks)) (handed_before handed : HandedOut)
+    → PlaceChange
+place_change files_before files sink_faults_before sink_faults past_before past handed_before handed =
     record {
       files_before = files_before;
       files = files;
@@ -36,6 +37,8 @@ place_change files_before files sink_faults_before sink_faults past_before past 
       sink_faults = sink_faults;
       past_before = past_before;
       past = past;
+      handed_before = handed_before;
+      handed = handed;
     }
 
 -- what it did, by what was left of its input and what its output had taken, before and then, and by what became of files and binder
@@ -51,9 +54,13 @@ output_of c = record { taken_before = c.streams.taken_before; taken = c.streams.
 abbrev pub IsPlaceKept : PlaceChange → Type 0
 IsPlaceKept p = (p.files ≡ p.files_before) × (p.past ≡ p.past_before)
 
--- nothing was read, and nothing written; the files are as before, and no links came back
+-- nor were any handed out: nothing was listened to
+abbrev pub IsPlaceUntouched : PlaceChange → Type 0
+IsPlaceUntouched p = IsPlaceKept p × (p.handed ≡ p.handed_before)
+
+-- nothing was read, and nothing written; the files are as before, and nothing was listened to
 abbrev pub IsAllUntouched : HostChange → Type 0
-IsAllUntouched c = AreUntouched c.streams × IsPlaceKept c.place
+IsAllUntouched c = AreUntouched c.streams × IsPlaceUntouched c.place
 
 -- what serves at an office and by services: with the read budget of the words
 abbrev pub setting_at : AskedRun → PlainOffice → List ServiceState → ServerSetting
@@ -75,9 +82,9 @@ module _ (a : AskedServing) (c : HostChange) where
   -- the calls, that the links came back with their tape, and that the summary was written; and that tape, calls and causes meet the headline at its office and from the
   -- memories of its handlers. A file fault may be the IDL's or the journal's; want of memory may come at any time.
   abbrev pub MeansServing : Status → Type 0
-  MeansServing IdlRefused = MeansUnarranged a.run IdlRefused c.streams × IsPlaceKept c.place
-  MeansServing BindRefused = MeansUnarranged a.run BindRefused c.streams × IsPlaceKept c.place
-  MeansServing FileFault = (MeansUnarranged a.run FileFault c.streams × IsPlaceKept c.place) ⊎ IsUnservedFor port_faults.FileFault
+  MeansServing IdlRefused = MeansUnarranged a.run IdlRefused c.streams × IsPlaceUntouched c.place
+  MeansServing BindRefused = MeansUnarranged a.run BindRefused c.streams × IsPlaceUntouched c.place
+  MeansServing FileFault = (MeansUnarranged a.run FileFault c.streams × IsPlaceUntouched c.place) ⊎ IsUnservedFor port_faults.FileFault
   MeansServing Done = IsAllServed
   MeansServing NetFault = IsUnservedFor port_faults.NetFault
   MeansServing JournalFault = IsUnservedFor port_faults.JournalFault

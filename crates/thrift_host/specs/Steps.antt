@@ -22,14 +22,13 @@ use Rattle.recorded_runs.specs.declared.fault.ServingFault.{ServingFault}
 use Rattle.recorded_runs.specs.declared.fault.ServingFault.TheVariants as serving_faults
 use Rattle.workload.specs.ExpectedRun.{work_text}
 use Rattle.recorded_runs.specs.Summaries.{EndsSummary}
+use Rattle.port_serving.specs.Answered.{goes_on}
 use Rattle.port_serving.specs.declared.fault.PortFault.{PortFault}
 use Rattle.port_serving.specs.declared.fault.PortFault.TheVariants as port_faults
 use Rattle.thrift_host.specs.declared.status.Status.{Status}
 use Rattle.thrift_host.specs.declared.status.Status.TheVariants as status
 use Rattle.thrift_host.specs.declared.arranging.RunFault.{RunFault}
 use Rattle.thrift_host.specs.declared.arranging.RunFault.TheVariants as faults
-use Rattle.thrift_host.specs.declared.serving.ServeFault.{ServeFault}
-use Rattle.thrift_host.specs.declared.serving.ServeFault.TheVariants as serve_faults
 use Rattle.thrift_host.specs.Errors.{Errors, IsSaid, IsLineSaid}
 use Rattle.thrift_host.specs.Checks.{AreUntouched}
 use Rattle.thrift_host.specs.Runs.{ScriptRunning, AskedRun, IsArranged, IsAccepted, IsAnsweredBy, IsRunReported, arranged_office}
@@ -73,12 +72,21 @@ EndsUnanswered serving_faults.WriteFault ended e = EndsAs status.WriteFault ende
 EndsUnanswered serving_faults.JournalFault ended e = EndsAs status.NoMemory ended e
 EndsUnanswered serving_faults.NoMemory ended e = EndsAs status.NoMemory ended e
 
--- how it ends after a run of what the words say is served
+-- the status of a port that isn't served
+abbrev pub status_of_port : PortFault → Status
+status_of_port port_faults.FileFault = status.FileFault
+status_of_port port_faults.NetFault = status.NetFault
+status_of_port port_faults.WriteFault = status.WriteFault
+status_of_port port_faults.JournalFault = status.JournalFault
+status_of_port port_faults.NoMemory = status.NoMemory
+
+-- how it ends after a run, or serving at a port, of what the words say is served
 abbrev pub EndsAfterRun : {A : Type 0} → PlainServed → Result A RunFault → Status → Errors → Type 0
 EndsAfterRun says (Ok _) ended e = EndsAs status.Done ended e
 EndsAfterRun says (Err (faults.NoSchema reason)) ended e = EndsWithout reason ended e
 EndsAfterRun says (Err (faults.Unbound fault)) ended e = EndsUnbound says fault ended e
 EndsAfterRun says (Err (faults.Unanswered fault)) ended e = EndsUnanswered fault ended e
+EndsAfterRun says (Err (faults.Unserved fault)) ended e = EndsAs (status_of_port fault) ended e
 
 -- an office, and the services in its slots, are those of an arrangement
 pub record IsArrangedAs (r : AskedRun) (office : PlainOffice) (services : List ServiceState) : Type 0 where
@@ -90,7 +98,7 @@ pub record IsArrangedAs (r : AskedRun) (office : PlainOffice) (services : List S
 abbrev pub TellsUnarranged : AskedRun → RunFault → Type 0
 TellsUnarranged r (faults.NoSchema reason) = TellsWhy (IsIdlVerdict r.files r.says.idl) (IsUnreadIdl r.files r.says.idl) reason
 TellsUnarranged r (faults.Unbound fault) = IsAccepted r (λ schema. OnRefusal fault (IsRefusedFirst schema r.handlers r.says.pairs r.says.default_service))
-TellsUnarranged r (faults.Unanswered fault) = ⊥
+TellsUnarranged r _ = ⊥
 
 -- what a fault of a run says of its files, its input and its output
 abbrev pub TellsFault : ScriptRunning → AskedRun → RunFault → Streams → Type 0
@@ -106,45 +114,31 @@ abbrev pub of_recording : {A : Type 0} → Result A ServingFault → Result A Ru
 of_recording (Ok x) = Ok x
 of_recording (Err fault) = Err (faults.Unanswered fault)
 
--- a file of the IDL's couldn't be read
-abbrev pub is_unread_fault : RunFault → Bool
-is_unread_fault (faults.NoSchema reason) = is_file_fault reason
-is_unread_fault _ = false
+-- a file of the IDL's couldn't be read, or that of the journal couldn't be made
+abbrev pub misses_file : RunFault → Bool
+misses_file (faults.NoSchema reason) = is_file_fault reason
+misses_file (faults.Unserved port_faults.FileFault) = true
+misses_file _ = false
 
-abbrev pub is_unread_file : {A : Type 0} → Result A RunFault → Bool
-is_unread_file (Ok _) = false
-is_unread_file (Err fault) = is_unread_fault fault
-
--- the status of a port that isn't served
-abbrev pub status_of_port : PortFault → Status
-status_of_port port_faults.FileFault = status.FileFault
-status_of_port port_faults.NetFault = status.NetFault
-status_of_port port_faults.WriteFault = status.WriteFault
-status_of_port port_faults.JournalFault = status.JournalFault
-status_of_port port_faults.NoMemory = status.NoMemory
-
--- how it ends after serving at a port what the words say is served
-abbrev pub EndsAfterServing : {A : Type 0} → PlainServed → Result A ServeFault → Status → Errors → Type 0
-EndsAfterServing says (Ok _) ended e = EndsAs status.Done ended e
-EndsAfterServing says (Err (serve_faults.Unarranged fault)) ended e = EndsAfterRun {A = Unit {0}} says (Err fault) ended e
-EndsAfterServing says (Err (serve_faults.Unserved fault)) ended e = EndsAs (status_of_port fault) ended e
+abbrev pub is_file_missed : {A : Type 0} → Result A RunFault → Bool
+is_file_missed (Ok _) = false
+is_file_missed (Err fault) = misses_file fault
 
 -- what serving at a port comes to, by what the port came to
-abbrev pub of_port : {A : Type 0} → Result A PortFault → Result A ServeFault
+abbrev pub of_port : {A : Type 0} → Result A PortFault → Result A RunFault
 of_port (Ok x) = Ok x
-of_port (Err fault) = Err (serve_faults.Unserved fault)
+of_port (Err fault) = Err (faults.Unserved fault)
 
 -- what serving at a port says of what it was given
-abbrev pub TellsServing : {A : Type 0} → AskedServing → Result A ServeFault → HostChange → Type 0
+abbrev pub TellsServing : {A : Type 0} → AskedServing → Result A RunFault → HostChange → Type 0
 TellsServing a (Ok _) c = IsAllServed a c
-TellsServing a (Err (serve_faults.Unarranged fault)) c = TellsUnarranged a.run fault × IsAllUntouched c
-TellsServing a (Err (serve_faults.Unserved fault)) c = IsUnservedFor a c fault
+TellsServing a (Err (faults.Unserved fault)) c = IsUnservedFor a c fault
+TellsServing a (Err fault) c = TellsUnarranged a.run fault × IsAllUntouched c
 
--- a file of the IDL's couldn't be read, or that of the journal couldn't be made
-abbrev pub is_file_missed : {A : Type 0} → Result A ServeFault → Bool
-is_file_missed (Err (serve_faults.Unarranged fault)) = is_unread_fault fault
-is_file_missed (Err (serve_faults.Unserved port_faults.FileFault)) = true
-is_file_missed _ = false
+-- serving went on to its end after this fault
+abbrev pub serves_on : {A : Type 0} → Result A RunFault → Bool
+serves_on (Err (faults.Unserved fault)) = goes_on fault
+serves_on _ = false
 
 -- why a workload isn't begun: nothing is arranged, or the tutorial has no calculator, which is answered as want of memory
 abbrev pub TellsUnworked : AskedRun → RunFault → Type 0

@@ -54,6 +54,8 @@ module _ (before after : Surroundings) where
     sink_faults = after.files.sink_faults;
     past_before = before.binder.past;
     past = after.binder.past;
+    handed_before = before.binder.handed;
+    handed = after.binder.handed;
   }
 
   -- both

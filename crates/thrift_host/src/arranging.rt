@@ -1,6 +1,6 @@
 //! What a run stands on: the office of an IDL's services, and the handlers in its slots.
 
-ghost use Rattle.std.specs.Prelude.{◌≡◌, ◌≤◌, true, false, length, map, Option, List, IfOk, OnOk, MatchResult};
+ghost use Rattle.std.specs.Prelude.{◌≡◌, ◌≤◌, true, false, length, map, Option, List, IfOk, MatchResult};
 ghost use Rattle.streams.specs.Cause.{Rose};
 ghost use Rattle.streams.specs.Files.{File};
 ghost use Rattle.command_line.specs.Answering.{plain_served};
@@ -10,19 +10,20 @@ ghost use Rattle.processor.specs.Offices.{plain_office};
 ghost use Rattle.schema.specs.SchemaOf.{schema_of};
 ghost use Rattle.schema.specs.Sound.{IsSound};
 ghost use Rattle.thrift_host.specs.Runs.{HasSchema};
-ghost use Rattle.thrift_host.specs.Steps.{IsArrangedAs, TellsUnarranged, is_unread_file, of_recording};
+ghost use Rattle.thrift_host.specs.Steps.{IsArrangedAs, TellsUnarranged, is_file_missed, of_recording};
 
 use crate::{BindFault, bind};
 use call_rules::Handler;
 use command_line::ServedIdl;
 use idl_check::{NoSchema, program_schema};
+use port_serving::PortFault;
 use processor::Office;
 use recorded_runs::ServingFault;
 use schema::Schema;
 use std::alloc::Global;
 use streams::Files;
 
-/// Why a run has no report, or no whole one.
+/// Why nothing is served, or not to its end.
 #[derive(Drop)]
 pub(crate) enum RunFault {
     /// The IDL has no schema.
@@ -31,6 +32,8 @@ pub(crate) enum RunFault {
     Unbound(BindFault),
     /// The recording isn't answered.
     Unanswered(ServingFault),
+    /// The port isn't served to the end.
+    Unserved(PortFault),
 }
 
 /// Loads the IDL of the words, and binds their pairs to its services and to handlers.
@@ -49,8 +52,8 @@ pub(crate) fn arrange<F: Files, H: Handler>(
     ensures files { F.files files.new ≡ F.files files.old }
     ensures sinks { F.sink_faults files.new ≡ F.sink_faults files.old }
     ensures later { F.faults files.old ≤ F.faults files.new }
-    ensures file_fault { is_unread_file result ≡ true → Rose (F.faults files.old) (F.faults files.new) }
-    ensures files_kept { OnOk result (F.faults files.new ≡ F.faults files.old) }
+    ensures file_fault { is_file_missed result ≡ true → Rose (F.faults files.old) (F.faults files.new) }
+    ensures files_kept { is_file_missed result ≡ false → F.faults files.new ≡ F.faults files.old }
 {
     match program_schema(alloc, files, served.idl.as_str()) {
         Ok(schema) => bind_pairs(alloc, served, schema, handlers),
@@ -73,7 +76,7 @@ pub(crate) fn bind_pairs<H: Handler>(
         (λ fault. TellsUnarranged (record { says = plain_served served.now; files = files; handlers = map H.service handlers.items }) fault) }
     ensures can { IfOk result (λ made. CanServe served.now.limits served.now.workers (plain_office made.0).max_frame (length (plain_office made.0).bindings) (length made.1.items)) }
     ensures schema { IfOk result (λ made. (plain_office made.0).schema ≡ schema_of schema) }
-    ensures no_file { is_unread_file result ≡ false }
+    ensures no_file { is_file_missed result ≡ false }
 {
     let default_service = served.default_name();
     match bind(alloc, &schema, &served.pairs, handlers, default_service) {

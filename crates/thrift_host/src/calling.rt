@@ -43,9 +43,9 @@ pub(crate) fn call<F: Files, K: Sink, E: Sink, B: Binder>(
     ensures file_fault { result ≡ Status.FileFault → Rose (F.faults files.old) (F.faults files.new) }
     ensures write_fault { result ≡ Status.WriteFault → Rose (K.faults output.old) (K.faults output.new) }
     ensures net_fault { result ≡ Status.NetFault → Rose (B.faults binder.old) (B.faults binder.new) }
-    ensures files_kept { result ≡ Status.Done → F.faults files.new ≡ F.faults files.old }
-    ensures output_kept { result ≡ Status.Done → K.faults output.new ≡ K.faults output.old }
-    ensures binder_kept { result ≡ Status.Done → B.faults binder.new ≡ B.faults binder.old }
+    ensures files_kept { result ≢ Status.FileFault → F.faults files.new ≡ F.faults files.old }
+    ensures output_kept { result ≢ Status.WriteFault → K.faults output.new ≡ K.faults output.old }
+    ensures binder_kept { result ≢ Status.NetFault → B.faults binder.new ≡ B.faults binder.old }
 {
     match program_schema(alloc, files, asked.idl.as_str()) {
         Ok(schema) => call_with_schema(alloc, output, errors, binder, schema, asked),
@@ -75,8 +75,8 @@ fn call_with_schema<K: Sink, E: Sink, B: Binder>(
     ensures no_file_fault { result ≢ Status.FileFault }
     ensures write_fault { result ≡ Status.WriteFault → Rose (K.faults output.old) (K.faults output.new) }
     ensures net_fault { result ≡ Status.NetFault → Rose (B.faults binder.old) (B.faults binder.new) }
-    ensures output_kept { result ≡ Status.Done → K.faults output.new ≡ K.faults output.old }
-    ensures binder_kept { result ≡ Status.Done → B.faults binder.new ≡ B.faults binder.old }
+    ensures output_kept { result ≢ Status.WriteFault → K.faults output.new ≡ K.faults output.old }
+    ensures binder_kept { result ≢ Status.NetFault → B.faults binder.new ≡ B.faults binder.old }
 {
     let call = PortCall {
         protocol: asked.protocol,

@@ -1,6 +1,6 @@
 //! A check: the text of an IDL's schema.
 
-ghost use Rattle.std.specs.Prelude.{◌≡◌, true, ℕ, List, Option, MatchResult};
+ghost use Rattle.std.specs.Prelude.{◌≡◌, ◌≢◌, true, ℕ, List, Option, MatchResult};
 ghost use Rattle.streams.specs.Cause.{Rose};
 ghost use Rattle.streams.specs.Files.{File};
 ghost use Rattle.idl_check.specs.Verdicts.{IsIdlVerdict, IsSchemaTextOf, IsUnreadIdl};
@@ -31,8 +31,8 @@ pub(crate) fn check<F: Files, K: Sink, E: Sink>(
     ensures file_fault { result ≡ Status.FileFault → Rose (F.faults files.old) (F.faults files.new) }
     ensures read_fault { result ≡ Status.ReadFault → ⊥ }
     ensures write_fault { result ≡ Status.WriteFault → Rose (K.faults output.old) (K.faults output.new) }
-    ensures files_kept { result ≡ Status.Done → F.faults files.new ≡ F.faults files.old }
-    ensures output_kept { result ≡ Status.Done → K.faults output.new ≡ K.faults output.old }
+    ensures files_kept { result ≢ Status.FileFault → F.faults files.new ≡ F.faults files.old }
+    ensures output_kept { result ≢ Status.WriteFault → K.faults output.new ≡ K.faults output.old }
 {
     match program_text(alloc, files, idl) {
         Ok(text) => end_text(output, errors, &text),
@@ -45,7 +45,7 @@ pub(crate) fn end_text<K: Sink, E: Sink>(output: &mut K, errors: &mut E, text: &
     ensures ends { EndsWriting result (K.taken output.old) (K.taken output.new) text.now
         (record { taken_before = E.taken errors.old; taken = E.taken errors.new; faults_before = E.faults errors.old; faults = E.faults errors.new }) }
     ensures write_fault { result ≡ Status.WriteFault → Rose (K.faults output.old) (K.faults output.new) }
-    ensures output_kept { result ≡ Status.Done → K.faults output.new ≡ K.faults output.old }
+    ensures output_kept { result ≢ Status.WriteFault → K.faults output.new ≡ K.faults output.old }
 {
     match write_all(output, text) {
         Ok(()) => end(errors, Status::Done),

@@ -6,6 +6,7 @@ ghost use Rattle.command_line.specs.Answering.{plain_served};
 ghost use Rattle.command_line.specs.Bounds.{KeepsServedBounds};
 ghost use Rattle.command_line.specs.Words.{words_of};
 ghost use Rattle.thrift_host.specs.CommandSteps.{EndsCommand};
+ghost use Rattle.thrift_host.specs.Counts.{GoesOn};
 ghost use Rattle.thrift_host.specs.Hosts.{Hosts};
 ghost use Rattle.thrift_host.specs.Top.{asked_run, asked_place};
 ghost use Rattle.thrift_host.specs.Runs.{MeansRun, SaysRun, SaysUnarranged, rehearsing, recording};
@@ -15,7 +16,7 @@ ghost use Rattle.thrift_host.specs.Workloads.{MeansWorkload, asked_workload};
 use crate::calling::call;
 use crate::checking::check;
 use crate::comparing::compare;
-use crate::ending::{end_run, end_serving};
+use crate::ending::end_run;
 use crate::recording::serve_script;
 use crate::rehearsing::rehearse;
 use crate::saying::{end, end_without_command};
@@ -191,9 +192,9 @@ fn rehearse_and_say<F: Files, S: Source, K: Sink, E: Sink, H: Handler>(
     ensures file_fault { result ≡ Status.FileFault → Rose (F.faults files.old) (F.faults files.new) }
     ensures read_fault { result ≡ Status.ReadFault → Rose (S.faults input.old) (S.faults input.new) }
     ensures write_fault { result ≡ Status.WriteFault → Rose (K.faults output.old) (K.faults output.new) }
-    ensures files_kept { result ≡ Status.Done → F.faults files.new ≡ F.faults files.old }
-    ensures input_kept { result ≡ Status.Done → S.faults input.new ≡ S.faults input.old }
-    ensures output_kept { result ≡ Status.Done → K.faults output.new ≡ K.faults output.old }
+    ensures files_kept { result ≢ Status.FileFault → F.faults files.new ≡ F.faults files.old }
+    ensures input_kept { result ≢ Status.ReadFault → S.faults input.new ≡ S.faults input.old }
+    ensures output_kept { result ≢ Status.WriteFault → K.faults output.new ≡ K.faults output.old }
 {
     let came_to = rehearse(alloc, files, input, output, &served, handlers);
     let status = end_run(alloc, errors, &served, came_to);
@@ -234,9 +235,9 @@ fn record_and_say<
     ensures file_fault { result ≡ Status.FileFault → Rose (F.faults files.old) (F.faults files.new) }
     ensures read_fault { result ≡ Status.ReadFault → Rose (S.faults input.old) (S.faults input.new) }
     ensures write_fault { result ≡ Status.WriteFault → Rose (K.faults output.old) (K.faults output.new) }
-    ensures files_kept { result ≡ Status.Done → F.faults files.new ≡ F.faults files.old }
-    ensures input_kept { result ≡ Status.Done → S.faults input.new ≡ S.faults input.old }
-    ensures output_kept { result ≡ Status.Done → K.faults output.new ≡ K.faults output.old }
+    ensures files_kept { result ≢ Status.FileFault → F.faults files.new ≡ F.faults files.old }
+    ensures input_kept { result ≢ Status.ReadFault → S.faults input.new ≡ S.faults input.old }
+    ensures output_kept { result ≢ Status.WriteFault → K.faults output.new ≡ K.faults output.old }
 {
     let came_to = serve_script(rt, alloc, files, input, output, &served, gate, handlers);
     let status = end_run(alloc, errors, &served, came_to);
@@ -272,7 +273,7 @@ fn serve_and_say<
           place = asked_place place.now.port place.now.accept place.now.journal.now;
         })
         (host_change left left (K.taken output.old) (K.taken output.new)
-        (place_change (F.files files.old) (F.files files.new) (F.sink_faults files.old) (F.sink_faults files.new) (B.past binder.old) (B.past binder.new))) result }
+        (place_change (F.files files.old) (F.files files.new) (F.sink_faults files.old) (F.sink_faults files.new) (B.past binder.old) (B.past binder.new) (B.handed binder.old) (B.handed binder.new))) result }
     ensures errors { SaysUnarranged (asked_run (plain_served served) (F.files files.old) (map H.service handlers.items)) result
         (record { taken_before = E.taken errors.old; taken = E.taken errors.new; faults_before = E.faults errors.old; faults = E.faults errors.new }) }
     ensures called { B.called binder.new ≡ B.called binder.old }
@@ -281,15 +282,15 @@ fn serve_and_say<
     ensures write_fault { result ≡ Status.WriteFault → Rose (K.faults output.old) (K.faults output.new) }
     ensures net_fault { result ≡ Status.NetFault → Rose (B.faults binder.old) (B.faults binder.new) }
     ensures journal_fault { result ≡ Status.JournalFault → Rose (F.sink_faults files.old) (F.sink_faults files.new) }
-    ensures files_kept { result ≡ Status.Done → F.faults files.new ≡ F.faults files.old }
-    ensures output_kept { result ≡ Status.Done → K.faults output.new ≡ K.faults output.old }
-    ensures binder_kept { result ≡ Status.Done → B.faults binder.new ≡ B.faults binder.old }
-    ensures sinks_kept { result ≡ Status.Done → F.sink_faults files.new ≡ F.sink_faults files.old }
+    ensures files_kept { result ≢ Status.FileFault → F.faults files.new ≡ F.faults files.old }
+    ensures output_kept { (GoesOn result → ⊥) → result ≢ Status.WriteFault → K.faults output.new ≡ K.faults output.old }
+    ensures binder_kept { (GoesOn result → ⊥) → B.faults binder.new ≡ B.faults binder.old }
+    ensures sinks_kept { (GoesOn result → ⊥) → F.sink_faults files.new ≡ F.sink_faults files.old }
 {
     let came_to = serve_connections(
         rt, alloc, files, output, binder, &served, place, gate, handlers,
     );
-    let status = end_serving(alloc, errors, &served, came_to);
+    let status = end_run(alloc, errors, &served, came_to);
     let_go(served);
     status
 }
@@ -321,8 +322,8 @@ fn work_and_say<F: Files, K: Sink, E: Sink, G: Gate + Sync, H: Handler, R: Threa
     ensures no_read_fault { result ≢ Status.ReadFault }
     ensures no_net_fault { result ≢ Status.NetFault }
     ensures no_journal_fault { result ≢ Status.JournalFault }
-    ensures files_kept { result ≡ Status.Done → F.faults files.new ≡ F.faults files.old }
-    ensures output_kept { result ≡ Status.Done → K.faults output.new ≡ K.faults output.old }
+    ensures files_kept { result ≢ Status.FileFault → F.faults files.new ≡ F.faults files.old }
+    ensures output_kept { result ≢ Status.WriteFault → K.faults output.new ≡ K.faults output.old }
 {
     let Ok(served) = workload_words(alloc, workers) else {
         return end(errors, Status::NoMemory);

@@ -1,6 +1,6 @@
 //! A comparison: whether the values and calls of an IDL survive the one that comes after it.
 
-ghost use Rattle.std.specs.Prelude.{◌≡◌, ℕ, List, Option};
+ghost use Rattle.std.specs.Prelude.{◌≡◌, ◌≢◌, ℕ, List, Option};
 ghost use Rattle.streams.specs.Cause.{Rose};
 ghost use Rattle.streams.specs.Files.{File};
 ghost use Rattle.schema.specs.SchemaOf.{schema_of};
@@ -37,8 +37,8 @@ pub(crate) fn compare<F: Files, K: Sink, E: Sink>(
     ensures sinks { F.sink_faults files.new ≡ F.sink_faults files.old }
     ensures file_fault { result ≡ Status.FileFault → Rose (F.faults files.old) (F.faults files.new) }
     ensures write_fault { result ≡ Status.WriteFault → Rose (K.faults output.old) (K.faults output.new) }
-    ensures files_kept { result ≡ Status.Done → F.faults files.new ≡ F.faults files.old }
-    ensures output_kept { result ≡ Status.Done → K.faults output.new ≡ K.faults output.old }
+    ensures files_kept { result ≢ Status.FileFault → F.faults files.new ≡ F.faults files.old }
+    ensures output_kept { result ≢ Status.WriteFault → K.faults output.new ≡ K.faults output.old }
 {
     match program_schema(alloc, files, idls.old.as_str()) {
         Ok(schema) => compare_with(alloc, files, output, errors, &schema, idls.new.as_str()),
@@ -65,8 +65,8 @@ fn compare_with<F: Files, K: Sink, E: Sink>(
     ensures sinks { F.sink_faults files.new ≡ F.sink_faults files.old }
     ensures file_fault { result ≡ Status.FileFault → Rose (F.faults files.old) (F.faults files.new) }
     ensures write_fault { result ≡ Status.WriteFault → Rose (K.faults output.old) (K.faults output.new) }
-    ensures files_kept { result ≡ Status.Done → F.faults files.new ≡ F.faults files.old }
-    ensures output_kept { result ≡ Status.Done → K.faults output.new ≡ K.faults output.old }
+    ensures files_kept { result ≢ Status.FileFault → F.faults files.new ≡ F.faults files.old }
+    ensures output_kept { result ≢ Status.WriteFault → K.faults output.new ≡ K.faults output.old }
 {
     match program_schema(alloc, files, new) {
         Ok(schema) => end_comparing(alloc, output, errors, before, &schema),
@@ -87,7 +87,7 @@ fn end_comparing<K: Sink, E: Sink>(
     ensures ends { EndsComparing (record { old = schema_of old.now; new = schema_of new.now }) result (K.taken output.old) (K.taken output.new)
         (record { taken_before = E.taken errors.old; taken = E.taken errors.new; faults_before = E.faults errors.old; faults = E.faults errors.new }) }
     ensures write_fault { result ≡ Status.WriteFault → Rose (K.faults output.old) (K.faults output.new) }
-    ensures output_kept { result ≡ Status.Done → K.faults output.new ≡ K.faults output.old }
+    ensures output_kept { result ≢ Status.WriteFault → K.faults output.new ≡ K.faults output.old }
 {
     match compat(alloc, old, new) {
         Ok(()) => end_text(output, errors, b"compatible\n"),
@@ -105,7 +105,7 @@ fn end_broken<K: Sink, E: Sink>(
     ensures ends { EndsBroken (plain_break found.now) result (K.taken output.old) (K.taken output.new)
         (record { taken_before = E.taken errors.old; taken = E.taken errors.new; faults_before = E.faults errors.old; faults = E.faults errors.new }) }
     ensures write_fault { result ≡ Status.WriteFault → Rose (K.faults output.old) (K.faults output.new) }
-    ensures not_done { result ≡ Status.Done → ⊥ }
+    ensures output_kept { result ≢ Status.WriteFault → K.faults output.new ≡ K.faults output.old }
 {
     if is_no_memory(found.kind) {
         return end(errors, Status::NoMemory);
@@ -121,7 +121,7 @@ fn end_break<K: Sink, E: Sink>(output: &mut K, errors: &mut E, line: &[u8]) -> S
     ensures ends { EndsTelling Status.Incompatible line.now result (K.taken output.old) (K.taken output.new)
         (record { taken_before = E.taken errors.old; taken = E.taken errors.new; faults_before = E.faults errors.old; faults = E.faults errors.new }) }
     ensures write_fault { result ≡ Status.WriteFault → Rose (K.faults output.old) (K.faults output.new) }
-    ensures not_done { result ≡ Status.Done → ⊥ }
+    ensures output_kept { result ≢ Status.WriteFault → K.faults output.new ≡ K.faults output.old }
 {
     match write_all(output, line) {
         Ok(()) => end(errors, Status::Incompatible),

@@ -4,13 +4,12 @@ ghost use Rattle.std.specs.Prelude.{◌≡◌, IfOk};
 ghost use Rattle.command_line.specs.Answering.{plain_served};
 ghost use Rattle.service_binding.specs.Refusals.{refused_pair_text};
 ghost use Rattle.recorded_runs.specs.Refusals.{refused_script_text};
-ghost use Rattle.thrift_host.specs.Steps.{EndsAfterRun, EndsAfterServing, EndsUnbound, EndsUnanswered, status_of_port};
+ghost use Rattle.thrift_host.specs.Steps.{EndsAfterRun, EndsUnbound, EndsUnanswered, status_of_port};
 
 use crate::BindFault;
 use crate::arranging::RunFault;
 use crate::checking::end_without_schema;
 use crate::saying::{end, end_saying};
-use crate::serving::ServeFault;
 use crate::status::Status;
 use command_line::ServedIdl;
 use port_serving::PortFault;
@@ -20,7 +19,7 @@ use service_binding::{BindKind, put_refused_pair};
 use std::alloc::{AllocError, Global};
 use streams::Sink;
 
-/// Ends the command with what became of a run of what is served.
+/// Ends the command with what became of a run, or of serving at a port.
 pub(crate) fn end_run<E: Sink>(
     alloc: Global,
     errors: &mut E,
@@ -35,23 +34,7 @@ pub(crate) fn end_run<E: Sink>(
         Err(RunFault::NoSchema(reason)) => end_without_schema(alloc, errors, reason),
         Err(RunFault::Unbound(fault)) => end_unbound(alloc, errors, served, fault),
         Err(RunFault::Unanswered(fault)) => end_unanswered(alloc, errors, fault),
-    }
-}
-
-/// Ends the command with what became of serving it at a port.
-pub(crate) fn end_serving<E: Sink>(
-    alloc: Global,
-    errors: &mut E,
-    served: &ServedIdl,
-    came_to: Result<(), ServeFault>,
-) -> Status
-    ensures { EndsAfterServing (plain_served served.now) came_to result
-        (record { taken_before = E.taken errors.old; taken = E.taken errors.new; faults_before = E.faults errors.old; faults = E.faults errors.new }) }
-{
-    match came_to {
-        Ok(()) => end(errors, Status::Done),
-        Err(ServeFault::Unarranged(fault)) => end_run(alloc, errors, served, Err(fault)),
-        Err(ServeFault::Unserved(fault)) => end(errors, port_status(fault)),
+        Err(RunFault::Unserved(fault)) => end(errors, port_status(fault)),
     }
 }
 

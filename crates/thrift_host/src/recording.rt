@@ -1,6 +1,6 @@
 //! A recorded run: recorded connections, served by handlers of an IDL's services, by a loop with workers on threads.
 
-ghost use Rattle.std.specs.Prelude.{◌≡◌, true, length, map, Err, OnOk};
+ghost use Rattle.std.specs.Prelude.{◌≡◌, ◌≢◌, true, false, length, map, Err};
 ghost use Rattle.streams.specs.Cause.{Rose};
 ghost use Rattle.conn_table.specs.Servable.{CanServe};
 ghost use Rattle.call_model.specs.Desk.{desk_of};
@@ -12,7 +12,7 @@ ghost use Rattle.recorded_runs.specs.Recorded.{MeansRecorded};
 ghost use Rattle.recorded_runs.specs.ServedScripts.{script_to_serve, IsServedScript};
 ghost use Rattle.recorded_runs.specs.declared.fault.ServingFault.TheVariants as serving_faults;
 ghost use Rattle.thrift_host.specs.Runs.{recording};
-ghost use Rattle.thrift_host.specs.Steps.{TellsRun, is_unread_file};
+ghost use Rattle.thrift_host.specs.Steps.{TellsRun, is_file_missed};
 ghost use Rattle.thrift_host.specs.declared.arranging.RunFault.TheVariants as faults;
 
 use crate::arranging::{RunFault, arrange, let_go, run_of};
@@ -52,12 +52,12 @@ pub(crate) fn serve_script<
         (record { left_before = S.left input.old; left = S.left input.new; taken_before = K.taken output.old; taken = K.taken output.new }) }
     ensures files { F.files files.new ≡ F.files files.old }
     ensures sinks { F.sink_faults files.new ≡ F.sink_faults files.old }
-    ensures file_fault { is_unread_file result ≡ true → Rose (F.faults files.old) (F.faults files.new) }
+    ensures file_fault { is_file_missed result ≡ true → Rose (F.faults files.old) (F.faults files.new) }
     ensures read_fault { result ≡ Err (faults.Unanswered serving_faults.ReadFault) → Rose (S.faults input.old) (S.faults input.new) }
     ensures write_fault { result ≡ Err (faults.Unanswered serving_faults.WriteFault) → Rose (K.faults output.old) (K.faults output.new) }
-    ensures files_kept { OnOk result (F.faults files.new ≡ F.faults files.old) }
-    ensures input_kept { OnOk result (S.faults input.new ≡ S.faults input.old) }
-    ensures output_kept { OnOk result (K.faults output.new ≡ K.faults output.old) }
+    ensures files_kept { is_file_missed result ≡ false → F.faults files.new ≡ F.faults files.old }
+    ensures input_kept { result ≢ Err (faults.Unanswered serving_faults.ReadFault) → S.faults input.new ≡ S.faults input.old }
+    ensures output_kept { result ≢ Err (faults.Unanswered serving_faults.WriteFault) → K.faults output.new ≡ K.faults output.old }
 {
     match arrange(alloc, files, served, handlers) {
         Ok((office, handlers)) => {
@@ -91,8 +91,8 @@ fn run_recording<S: Source, K: Sink, G: Gate + Sync, H: Handler, R: Threads + Wa
         (record { left_before = S.left input.old; left = S.left input.new; taken_before = K.taken output.old; taken = K.taken output.new }) }
     ensures read_fault { result ≡ Err ServingFault.ReadFault → Rose (S.faults input.old) (S.faults input.new) }
     ensures write_fault { result ≡ Err ServingFault.WriteFault → Rose (K.faults output.old) (K.faults output.new) }
-    ensures input_kept { OnOk result (S.faults input.new ≡ S.faults input.old) }
-    ensures output_kept { OnOk result (K.faults output.new ≡ K.faults output.old) }
+    ensures input_kept { result ≢ Err ServingFault.ReadFault → S.faults input.new ≡ S.faults input.old }
+    ensures output_kept { result ≢ Err ServingFault.WriteFault → K.faults output.new ≡ K.faults output.old }
 {
     let journal = ReportedList::new(alloc);
     let answered = serve_recorded::<JournalLines, Office, H, ReportedList, S, K, G, R>(

@@ -1,16 +1,16 @@
 //! Connections at a port, served by handlers of an IDL's services, by a loop with workers on threads.
 
-ghost use Rattle.std.specs.Prelude.{◌≡◌, ℕ, List, Option, true, length, map, Err, OnOk};
+ghost use Rattle.std.specs.Prelude.{◌≡◌, ◌≢◌, ℕ, List, Option, true, false, length, map, Err};
 ghost use Rattle.streams.specs.Cause.{Rose};
 ghost use Rattle.conn_table.specs.Servable.{CanServe};
 ghost use Rattle.call_model.specs.Desk.{desk_of};
 ghost use Rattle.command_line.specs.Answering.{plain_served};
 ghost use Rattle.command_line.specs.Bounds.{KeepsServedBounds};
-ghost use Rattle.port_serving.specs.Answered.{MeansServedPort};
+ghost use Rattle.port_serving.specs.Answered.{MeansServedPort, went_on};
 ghost use Rattle.port_serving.specs.declared.fault.PortFault.TheVariants as port_faults;
 ghost use Rattle.processor.specs.Offices.{plain_office};
-ghost use Rattle.thrift_host.specs.Steps.{TellsServing, is_file_missed, of_port};
-ghost use Rattle.thrift_host.specs.declared.serving.ServeFault.TheVariants as faults;
+ghost use Rattle.thrift_host.specs.Steps.{TellsServing, is_file_missed, of_port, serves_on};
+ghost use Rattle.thrift_host.specs.declared.arranging.RunFault.TheVariants as faults;
 
 use crate::arranging::{RunFault, arrange, let_go};
 use call_rules::Handler;
@@ -23,15 +23,6 @@ use std::alloc::Global;
 use std::sync::Wait;
 use std::thread::Threads;
 use streams::{Files, Sink};
-
-/// Why connections at a port aren't served until all is over.
-#[derive(Drop)]
-pub(crate) enum ServeFault {
-    /// The IDL has no schema, or the pairs aren't bound.
-    Unarranged(RunFault),
-    /// The port isn't served to the end.
-    Unserved(PortFault),
-}
 
 /// Serves connections at a place, as the words say, and writes the summary to the output. It may wait.
 pub(crate) fn serve_connections<
@@ -51,7 +42,7 @@ pub(crate) fn serve_connections<
     place: &ServedPort<'_>,
     gate: &G,
     handlers: Vec<H>,
-) -> Result<(), ServeFault>
+) -> Result<(), RunFault>
     requires { KeepsServedBounds (plain_served served.now) }
     ensures tells { (left : Option (List ℕ)) → TellsServing
         (record {
@@ -68,6 +59,8 @@ pub(crate) fn serve_connections<
             sink_faults = F.sink_faults files.new;
             past_before = B.past binder.old;
             past = B.past binder.new;
+            handed_before = B.handed binder.old;
+            handed = B.handed binder.new;
           };
         }) }
     ensures called { B.called binder.new ≡ B.called binder.old }
@@ -75,10 +68,10 @@ pub(crate) fn serve_connections<
     ensures net_fault { result ≡ Err (faults.Unserved port_faults.NetFault) → Rose (B.faults binder.old) (B.faults binder.new) }
     ensures write_fault { result ≡ Err (faults.Unserved port_faults.WriteFault) → Rose (K.faults output.old) (K.faults output.new) }
     ensures journal_fault { result ≡ Err (faults.Unserved port_faults.JournalFault) → Rose (F.sink_faults files.old) (F.sink_faults files.new) }
-    ensures files_kept { OnOk result (F.faults files.new ≡ F.faults files.old) }
-    ensures output_kept { OnOk result (K.faults output.new ≡ K.faults output.old) }
-    ensures binder_kept { OnOk result (B.faults binder.new ≡ B.faults binder.old) }
-    ensures sinks_kept { OnOk result (F.sink_faults files.new ≡ F.sink_faults files.old) }
+    ensures files_kept { is_file_missed result ≡ false → F.faults files.new ≡ F.faults files.old }
+    ensures output_kept { serves_on result ≡ false → result ≢ Err (faults.Unserved port_faults.WriteFault) → K.faults output.new ≡ K.faults output.old }
+    ensures binder_kept { serves_on result ≡ false → B.faults binder.new ≡ B.faults binder.old }
+    ensures sinks_kept { serves_on result ≡ false → F.sink_faults files.new ≡ F.sink_faults files.old }
 {
     match arrange(alloc, files, served, handlers) {
         Ok((office, handlers)) => {
@@ -88,7 +81,7 @@ pub(crate) fn serve_connections<
                 rt, alloc, files, output, binder, office, place, gate, handlers, workers, limits,
             ))
         }
-        Err(fault) => Err(ServeFault::Unarranged(fault)),
+        Err(fault) => Err(fault),
     }
 }
 
@@ -117,6 +110,8 @@ fn run_port<F: Files, K: Sink, B: Binder, G: Gate + Sync, H: Handler, R: Threads
           sink_faults = F.sink_faults files.new;
           past_before = B.past binder.old;
           past = B.past binder.new;
+          handed_before = B.handed binder.old;
+          handed = B.handed binder.new;
         })
         (record { taken_before = K.taken output.old; taken = K.taken output.new }) result }
     ensures called { B.called binder.new ≡ B.called binder.old }
@@ -124,10 +119,10 @@ fn run_port<F: Files, K: Sink, B: Binder, G: Gate + Sync, H: Handler, R: Threads
     ensures net_fault { result ≡ Err PortFault.NetFault → Rose (B.faults binder.old) (B.faults binder.new) }
     ensures write_fault { result ≡ Err PortFault.WriteFault → Rose (K.faults output.old) (K.faults output.new) }
     ensures journal_fault { result ≡ Err PortFault.JournalFault → Rose (F.sink_faults files.old) (F.sink_faults files.new) }
-    ensures files_kept { OnOk result (F.faults files.new ≡ F.faults files.old) }
-    ensures output_kept { OnOk result (K.faults output.new ≡ K.faults output.old) }
-    ensures binder_kept { OnOk result (B.faults binder.new ≡ B.faults binder.old) }
-    ensures sinks_kept { OnOk result (F.sink_faults files.new ≡ F.sink_faults files.old) }
+    ensures files_kept { result ≢ Err PortFault.FileFault → F.faults files.new ≡ F.faults files.old }
+    ensures output_kept { went_on result ≡ false → result ≢ Err PortFault.WriteFault → K.faults output.new ≡ K.faults output.old }
+    ensures binder_kept { went_on result ≡ false → B.faults binder.new ≡ B.faults binder.old }
+    ensures sinks_kept { went_on result ≡ false → F.sink_faults files.new ≡ F.sink_faults files.old }
 {
     let came_to = serve_port(
         rt, alloc, files, output, binder, &office, handlers, gate, workers, limits, place,
@@ -137,11 +132,11 @@ fn run_port<F: Files, K: Sink, B: Binder, G: Gate + Sync, H: Handler, R: Threads
 }
 
 /// What serving at a port comes to, by what the port came to.
-fn serving_of(came_to: Result<(), PortFault>) -> Result<(), ServeFault>
+fn serving_of(came_to: Result<(), PortFault>) -> Result<(), RunFault>
     ensures { result ≡ of_port came_to }
 {
     match came_to {
         Ok(()) => Ok(()),
-        Err(fault) => Err(ServeFault::Unserved(fault)),
+        Err(fault) => Err(RunFault::Unserved(fault)),
     }
 }

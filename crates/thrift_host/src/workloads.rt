@@ -1,6 +1,6 @@
 //! A workload: the tutorial's calculator, served on the connections of a script that is made from a seed, by a loop with workers on threads.
 
-ghost use Rattle.std.specs.Prelude.{◌≡◌, ◌≤◌, ℕ, List, Option, true, false, length, map, IfOk, OnOk, MatchResult, Err};
+ghost use Rattle.std.specs.Prelude.{◌≡◌, ◌≢◌, ◌≤◌, ℕ, List, Option, true, false, length, map, IfOk, MatchResult, Err};
 ghost use Rattle.streams.specs.Cause.{Rose};
 ghost use Rattle.streams.specs.Files.{File};
 ghost use Rattle.conn_table.specs.Servable.{CanServe};
@@ -14,7 +14,7 @@ ghost use Rattle.workload.specs.Calculators.{IsCalculatorsOffice};
 ghost use Rattle.workload.specs.Summed.{HasCalculator};
 ghost use Rattle.recorded_runs.specs.Summaries.{WritesSummary};
 ghost use Rattle.thrift_host.specs.Runs.{HasSchema};
-ghost use Rattle.thrift_host.specs.Steps.{TellsUnworked, TellsWorkload, is_unread_file};
+ghost use Rattle.thrift_host.specs.Steps.{TellsUnworked, TellsWorkload, is_file_missed};
 ghost use Rattle.thrift_host.specs.Workloads.{has_calculator, workload_says};
 ghost use Rattle.thrift_host.specs.declared.arranging.RunFault.TheVariants as faults;
 
@@ -77,10 +77,10 @@ pub(crate) fn work<F: Files, K: Sink, G: Gate + Sync, H: Handler, R: Threads + W
         (record { left_before = left; left = left; taken_before = K.taken output.old; taken = K.taken output.new }) }
     ensures files { F.files files.new ≡ F.files files.old }
     ensures sinks { F.sink_faults files.new ≡ F.sink_faults files.old }
-    ensures file_fault { is_unread_file result ≡ true → Rose (F.faults files.old) (F.faults files.new) }
+    ensures file_fault { is_file_missed result ≡ true → Rose (F.faults files.old) (F.faults files.new) }
     ensures write_fault { result ≡ Err (faults.Unanswered serving_faults.WriteFault) → Rose (K.faults output.old) (K.faults output.new) }
-    ensures files_kept { OnOk result (F.faults files.new ≡ F.faults files.old) }
-    ensures output_kept { OnOk result (K.faults output.new ≡ K.faults output.old) }
+    ensures files_kept { is_file_missed result ≡ false → F.faults files.new ≡ F.faults files.old }
+    ensures output_kept { result ≢ Err (faults.Unanswered serving_faults.WriteFault) → K.faults output.new ≡ K.faults output.old }
 {
     match arrange_calculator(alloc, files, served, handlers) {
         Ok((office, handlers)) => {
@@ -109,8 +109,8 @@ fn arrange_calculator<F: Files, H: Handler>(
     ensures can { IfOk result (λ made. CanServe served.now.limits served.now.workers (plain_office made.0).max_frame (length (plain_office made.0).bindings) (length made.1.items)) }
     ensures files { F.files files.new ≡ F.files files.old }
     ensures sinks { F.sink_faults files.new ≡ F.sink_faults files.old }
-    ensures file_fault { is_unread_file result ≡ true → Rose (F.faults files.old) (F.faults files.new) }
-    ensures files_kept { OnOk result (F.faults files.new ≡ F.faults files.old) }
+    ensures file_fault { is_file_missed result ≡ true → Rose (F.faults files.old) (F.faults files.new) }
+    ensures files_kept { is_file_missed result ≡ false → F.faults files.new ≡ F.faults files.old }
 {
     match program_schema(alloc, files, served.idl.as_str()) {
         Ok(schema) => bind_calculator(alloc, served, schema, handlers),
@@ -132,7 +132,7 @@ fn bind_calculator<H: Handler>(
         (λ made. IsCalculatorsOffice (plain_office made.0) × HasCalculator (map H.service made.1.items))
         (λ fault. TellsUnworked (record { says = plain_served served.now; files = files; handlers = map H.service handlers.items }) fault) }
     ensures can { IfOk result (λ made. CanServe served.now.limits served.now.workers (plain_office made.0).max_frame (length (plain_office made.0).bindings) (length made.1.items)) }
-    ensures no_file { is_unread_file result ≡ false }
+    ensures no_file { is_file_missed result ≡ false }
 {
     if has_calculator(&schema) {
         return bind_pairs(alloc, served, schema, handlers);
@@ -170,7 +170,7 @@ fn run_workload<K: Sink, G: Gate + Sync, H: Handler, R: Threads + Wait + Sync>(
     requires service { HasCalculator (map H.service handlers.items) }
     ensures summed { WritesSummary (work_text work.seed work.size) (K.taken output.old) (K.taken output.new) result }
     ensures write_fault { result ≡ Err ServingFault.WriteFault → Rose (K.faults output.old) (K.faults output.new) }
-    ensures output_kept { OnOk result (K.faults output.new ≡ K.faults output.old) }
+    ensures output_kept { result ≢ Err ServingFault.WriteFault → K.faults output.new ≡ K.faults output.old }
 {
     let journal = ReportedList::new(alloc);
     let answered = serve_workload::<Office, H, ReportedList, K, G, R>(

@@ -16,7 +16,7 @@ use std::thread::Threads;
 use std::{env, io};
 use streams::{RealFiles, RealIn, RealOut};
 use thrift_host::{Status, host};
-use told_links::ToldBinder;
+use told_links::{ToldBinder, ToldSink};
 
 fn main(rt: HostRuntime) -> ExitCode {
     let _kept = [open_root(&rt), open_root(&rt), open_root(&rt)];
@@ -82,8 +82,8 @@ fn run_with<H: Handler, R: Threads + Wait + Net + Sync>(
 ) -> Status {
     let mut files = RealFiles::new(rt);
     let mut input = RealIn::new(rt);
-    let mut output = RealOut::output(rt);
-    let mut errors = RealOut::errors(rt);
+    let mut output = ToldSink::new(RealOut::output(rt));
+    let mut errors = ToldSink::new(RealOut::errors(rt));
     let mut binder = ToldBinder::new(NetBinder::new(handle));
     host(
         handle,

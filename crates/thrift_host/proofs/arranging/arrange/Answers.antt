@@ -1,5 +1,4 @@
-use Rattle.streams.proofs.Causes.{on_ok}
 use Rattle.thrift_host.proofs.arranging.arrange.Goals as goal
 
 pub returns-in-Ok-clause-files_kept : goal.returns-in-Ok-clause-files_kept
-returns-in-Ok-clause-files_kept g c = on_ok c.bind_pairs.result c.in-Ok.ensures.kept
+returns-in-Ok-clause-files_kept g c = λ _. c.in-Ok.ensures.kept

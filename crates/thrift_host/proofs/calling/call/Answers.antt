@@ -3,7 +3,7 @@ use Rattle.command_line.specs.Answering.{plain_asking}
 use Rattle.schema.specs.SchemaOf.{schema_of}
 use Rattle.thrift_host.proofs.Called.{call_means, no_call_means}
 use Rattle.thrift_host.proofs.Compared.{named_schema, named_reason}
-use Rattle.thrift_host.proofs.Ended.{never_done}
+use Rattle.thrift_host.proofs.Ended.{read_reason}
 use Rattle.thrift_host.proofs.calling.call.Goals as goal
 
 pub returns-in-Ok-clause-means : goal.returns-in-Ok-clause-means
@@ -17,4 +17,4 @@ returns-in-Err-clause-means g c =
     (named_reason _ _ _ _ c.as_str.ensures c.in-Err.ensures.schema) c.end_without_schema.ensures
 
 pub returns-in-Err-clause-files_kept : goal.returns-in-Err-clause-files_kept
-returns-in-Err-clause-files_kept g c is = absurd (never_done c.in-Err.reason _ _ c.end_without_schema.ensures is)
+returns-in-Err-clause-files_kept g c not_it = c.in-Err.ensures.quiet (read_reason _ _ c.in-Err.reason c.end_without_schema.ensures not_it)

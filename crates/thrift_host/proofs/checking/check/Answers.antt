@@ -1,7 +1,7 @@
 use Rattle.std.proofs.Common.{refl, sym, subst}
 use Rattle.idl_check.specs.Verdicts.{IsSchemaTextOf}
 use Rattle.thrift_host.proofs.Checked.{printed_means, printed_said, unprinted_means, unprinted_said}
-use Rattle.thrift_host.proofs.Ended.{never_done}
+use Rattle.thrift_host.proofs.Ended.{read_reason}
 use Rattle.thrift_host.proofs.checking.check.Goals as goal
 
 pub returns-in-Ok-clause-means : goal.returns-in-Ok-clause-means
@@ -22,4 +22,4 @@ returns-in-Err-clause-said g c =
     unprinted_said (g.F.Files.files c.args.files.now) c.args.idl.now c.end_without_schema.result _ c.in-Err.reason c.in-Err.ensures.text c.end_without_schema.ensures
 
 pub returns-in-Err-clause-files_kept : goal.returns-in-Err-clause-files_kept
-returns-in-Err-clause-files_kept g c is = absurd (never_done c.in-Err.reason _ _ c.end_without_schema.ensures is)
+returns-in-Err-clause-files_kept g c not_it = c.in-Err.ensures.quiet (read_reason _ _ c.in-Err.reason c.end_without_schema.ensures not_it)

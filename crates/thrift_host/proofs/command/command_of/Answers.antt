@@ -18,16 +18,11 @@ returns-in-Ok-Check g c =
     (ends_check c.in-Ok-Check.idl _ _ _ _ c.check.result c.as_str.ensures (c.check.ensures.means (g.S.Source.left c.args.input.now)) c.check.ensures.said
     (c.check.ensures.files, refl) refl
     (record {
-      files = c.check.ensures.file_fault;
-      input = λ is. absurd (c.check.ensures.read_fault is);
-      output = c.check.ensures.write_fault;
-      binder = λ is. absurd (never_net _ _ _ c.check.result (c.check.ensures.means None) is);
-      sinks = λ is. absurd (never_journal _ _ _ c.check.result (c.check.ensures.means None) is);
-      files_kept = c.check.ensures.files_kept;
-      input_kept = λ _. refl;
-      output_kept = c.check.ensures.output_kept;
-      binder_kept = λ _. refl;
-      sinks_kept = λ _. c.check.ensures.sinks;
+      files = record { rose = c.check.ensures.file_fault; kept = c.check.ensures.files_kept };
+      input = record { rose = λ is. absurd (c.check.ensures.read_fault is); kept = λ _. refl };
+      output = record { rose = c.check.ensures.write_fault; kept = c.check.ensures.output_kept };
+      binder = record { rose = λ is. absurd (never_net _ _ _ c.check.result (c.check.ensures.means None) is); kept = λ _. refl };
+      sinks = record { rose = λ is. absurd (never_journal _ _ _ c.check.result (c.check.ensures.means None) is); kept = λ _. c.check.ensures.sinks };
     }))
 
 pub returns-in-Ok-Compat : goal.returns-in-Ok-Compat
@@ -43,16 +38,11 @@ returns-in-Ok-Compat g c =
       kept = (c.compare.ensures.files, refl);
       called = refl;
       counts = record {
-        files = c.compare.ensures.file_fault;
-        input = λ is. absurd (no_read there c.in-Ok-Compat.idls.old c.in-Ok-Compat.idls.new c.compare.result s means is);
-        output = c.compare.ensures.write_fault;
-        binder = λ is. absurd (no_net there c.in-Ok-Compat.idls.old c.in-Ok-Compat.idls.new c.compare.result s means is);
-        sinks = λ is. absurd (no_journal there c.in-Ok-Compat.idls.old c.in-Ok-Compat.idls.new c.compare.result s means is);
-        files_kept = c.compare.ensures.files_kept;
-        input_kept = λ _. refl;
-        output_kept = c.compare.ensures.output_kept;
-        binder_kept = λ _. refl;
-        sinks_kept = λ _. c.compare.ensures.sinks;
+        files = record { rose = c.compare.ensures.file_fault; kept = c.compare.ensures.files_kept };
+        input = record { rose = λ is. absurd (no_read there c.in-Ok-Compat.idls.old c.in-Ok-Compat.idls.new c.compare.result s means is); kept = λ _. refl };
+        output = record { rose = c.compare.ensures.write_fault; kept = c.compare.ensures.output_kept };
+        binder = record { rose = λ is. absurd (no_net there c.in-Ok-Compat.idls.old c.in-Ok-Compat.idls.new c.compare.result s means is); kept = λ _. refl };
+        sinks = record { rose = λ is. absurd (no_journal there c.in-Ok-Compat.idls.old c.in-Ok-Compat.idls.new c.compare.result s means is); kept = λ _. c.compare.ensures.sinks };
       };
     })
 
@@ -65,16 +55,11 @@ returns-in-Ok-Call g c =
       kept = (c.call.ensures.files, c.call.ensures.past);
       called = c.call.ensures.means;
       counts = record {
-        files = c.call.ensures.file_fault;
-        input = λ is. absurd (call_reads_nothing _ _ _ _ c.call.result c.call.ensures.means is);
-        output = c.call.ensures.write_fault;
-        binder = c.call.ensures.net_fault;
-        sinks = λ is. absurd (call_has_no_journal _ _ _ _ c.call.result c.call.ensures.means is);
-        files_kept = c.call.ensures.files_kept;
-        input_kept = λ _. refl;
-        output_kept = c.call.ensures.output_kept;
-        binder_kept = c.call.ensures.binder_kept;
-        sinks_kept = λ _. c.call.ensures.sinks;
+        files = record { rose = c.call.ensures.file_fault; kept = c.call.ensures.files_kept };
+        input = record { rose = λ is. absurd (call_reads_nothing _ _ _ _ c.call.result c.call.ensures.means is); kept = λ _. refl };
+        output = record { rose = c.call.ensures.write_fault; kept = c.call.ensures.output_kept };
+        binder = record { rose = c.call.ensures.net_fault; kept = c.call.ensures.binder_kept };
+        sinks = record { rose = λ is. absurd (call_has_no_journal _ _ _ _ c.call.result c.call.ensures.means is); kept = λ _. c.call.ensures.sinks };
       };
     })
 
@@ -87,16 +72,11 @@ returns-in-Ok-Rehearse g c =
       kept = (c.rehearse_and_say.ensures.files, refl);
       called = refl;
       counts = record {
-        files = c.rehearse_and_say.ensures.file_fault;
-        input = c.rehearse_and_say.ensures.read_fault;
-        output = c.rehearse_and_say.ensures.write_fault;
-        binder = λ is. absurd (run_no_net rehearsing _ _ c.rehearse_and_say.result c.rehearse_and_say.ensures.means is);
-        sinks = λ is. absurd (run_no_journal rehearsing _ _ c.rehearse_and_say.result c.rehearse_and_say.ensures.means is);
-        files_kept = c.rehearse_and_say.ensures.files_kept;
-        input_kept = c.rehearse_and_say.ensures.input_kept;
-        output_kept = c.rehearse_and_say.ensures.output_kept;
-        binder_kept = λ _. refl;
-        sinks_kept = λ _. c.rehearse_and_say.ensures.sinks;
+        files = record { rose = c.rehearse_and_say.ensures.file_fault; kept = c.rehearse_and_say.ensures.files_kept };
+        input = record { rose = c.rehearse_and_say.ensures.read_fault; kept = c.rehearse_and_say.ensures.input_kept };
+        output = record { rose = c.rehearse_and_say.ensures.write_fault; kept = c.rehearse_and_say.ensures.output_kept };
+        binder = record { rose = λ is. absurd (run_no_net rehearsing _ _ c.rehearse_and_say.result c.rehearse_and_say.ensures.means is); kept = λ _. refl };
+        sinks = record { rose = λ is. absurd (run_no_journal rehearsing _ _ c.rehearse_and_say.result c.rehearse_and_say.ensures.means is); kept = λ _. c.rehearse_and_say.ensures.sinks };
       };
     })
 
@@ -109,16 +89,11 @@ returns-in-Ok-Record g c =
       kept = (c.record_and_say.ensures.files, refl);
       called = refl;
       counts = record {
-        files = c.record_and_say.ensures.file_fault;
-        input = c.record_and_say.ensures.read_fault;
-        output = c.record_and_say.ensures.write_fault;
-        binder = λ is. absurd (run_no_net recording _ _ c.record_and_say.result c.record_and_say.ensures.means is);
-        sinks = λ is. absurd (run_no_journal recording _ _ c.record_and_say.result c.record_and_say.ensures.means is);
-        files_kept = c.record_and_say.ensures.files_kept;
-        input_kept = c.record_and_say.ensures.input_kept;
-        output_kept = c.record_and_say.ensures.output_kept;
-        binder_kept = λ _. refl;
-        sinks_kept = λ _. c.record_and_say.ensures.sinks;
+        files = record { rose = c.record_and_say.ensures.file_fault; kept = c.record_and_say.ensures.files_kept };
+        input = record { rose = c.record_and_say.ensures.read_fault; kept = c.record_and_say.ensures.input_kept };
+        output = record { rose = c.record_and_say.ensures.write_fault; kept = c.record_and_say.ensures.output_kept };
+        binder = record { rose = λ is. absurd (run_no_net recording _ _ c.record_and_say.result c.record_and_say.ensures.means is); kept = λ _. refl };
+        sinks = record { rose = λ is. absurd (run_no_journal recording _ _ c.record_and_say.result c.record_and_say.ensures.means is); kept = λ _. c.record_and_say.ensures.sinks };
       };
     })
 
@@ -130,22 +105,18 @@ returns-in-Ok-Serve g c =
           serves_asked _ _ _ _ _ (map g.H.Handler.service c.args.handlers.items) c.serve_and_say.result
           (host_change (g.S.Source.left c.args.input.now) (g.S.Source.left c.args.input.now) (g.K.Sink.taken c.args.output.now) (g.K.Sink.taken c.serve_and_say.new.output)
           (place_change (g.F.Files.files c.args.files.now) (g.F.Files.files c.serve_and_say.new.files) (g.F.Files.sink_faults c.args.files.now)
-          (g.F.Files.sink_faults c.serve_and_say.new.files) (g.B.Binder.past c.args.binder.now) (g.B.Binder.past c.serve_and_say.new.binder)))
+          (g.F.Files.sink_faults c.serve_and_say.new.files) (g.B.Binder.past c.args.binder.now) (g.B.Binder.past c.serve_and_say.new.binder)
+          (g.B.Binder.handed c.args.binder.now) (g.B.Binder.handed c.serve_and_say.new.binder)))
           refl c.as_str-in-Ok-Serve.ensures (c.serve_and_say.ensures.means (g.S.Source.left c.args.input.now));
       said = c.serve_and_say.ensures.errors;
       kept = tt;
       called = c.serve_and_say.ensures.called;
       counts = record {
-        files = c.serve_and_say.ensures.file_fault;
-        input = λ is. absurd (c.serve_and_say.ensures.read_fault is);
-        output = c.serve_and_say.ensures.write_fault;
-        binder = c.serve_and_say.ensures.net_fault;
-        sinks = c.serve_and_say.ensures.journal_fault;
-        files_kept = c.serve_and_say.ensures.files_kept;
-        input_kept = λ _. refl;
-        output_kept = c.serve_and_say.ensures.output_kept;
-        binder_kept = c.serve_and_say.ensures.binder_kept;
-        sinks_kept = c.serve_and_say.ensures.sinks_kept;
+        files = record { rose = c.serve_and_say.ensures.file_fault; kept = λ out. c.serve_and_say.ensures.files_kept out.0 };
+        input = record { rose = λ is. absurd (c.serve_and_say.ensures.read_fault is); kept = λ _. refl };
+        output = record { rose = c.serve_and_say.ensures.write_fault; kept = λ out. c.serve_and_say.ensures.output_kept (λ on. out.1 on tt) out.0 };
+        binder = record { rose = c.serve_and_say.ensures.net_fault; kept = λ out. c.serve_and_say.ensures.binder_kept (λ on. out.1 on tt) };
+        sinks = record { rose = c.serve_and_say.ensures.journal_fault; kept = λ out. c.serve_and_say.ensures.sinks_kept (λ on. out.1 on tt) };
       };
     })
 
@@ -158,16 +129,11 @@ returns-in-Ok-Workload g c =
       kept = (c.work_and_say.ensures.files, refl);
       called = refl;
       counts = record {
-        files = c.work_and_say.ensures.file_fault;
-        input = λ is. absurd (c.work_and_say.ensures.no_read_fault is);
-        output = c.work_and_say.ensures.write_fault;
-        binder = λ is. absurd (c.work_and_say.ensures.no_net_fault is);
-        sinks = λ is. absurd (c.work_and_say.ensures.no_journal_fault is);
-        files_kept = c.work_and_say.ensures.files_kept;
-        input_kept = λ _. refl;
-        output_kept = c.work_and_say.ensures.output_kept;
-        binder_kept = λ _. refl;
-        sinks_kept = λ _. c.work_and_say.ensures.sinks;
+        files = record { rose = c.work_and_say.ensures.file_fault; kept = c.work_and_say.ensures.files_kept };
+        input = record { rose = λ is. absurd (c.work_and_say.ensures.no_read_fault is); kept = λ _. refl };
+        output = record { rose = c.work_and_say.ensures.write_fault; kept = c.work_and_say.ensures.output_kept };
+        binder = record { rose = λ is. absurd (c.work_and_say.ensures.no_net_fault is); kept = λ _. refl };
+        sinks = record { rose = λ is. absurd (c.work_and_say.ensures.no_journal_fault is); kept = λ _. c.work_and_say.ensures.sinks };
       };
     })
 
@@ -175,20 +141,15 @@ pub returns-in-Err : goal.returns-in-Err
 returns-in-Err g c =
     let ended = of_words c.in-Err.fault c.end_without_command.result _ c.end_without_command.ensures in
     record {
-      means = unread_means c.in-Err.fault c.end_without_command.result _ c.end_without_command.ensures _ _ _ c.in-Err.ensures.answers ((refl, refl), (refl, refl));
+      means = unread_means c.in-Err.fault c.end_without_command.result _ c.end_without_command.ensures _ _ _ c.in-Err.ensures.answers ((refl, refl), ((refl, refl), refl));
       said = unread_says c.in-Err.fault c.end_without_command.result _ c.end_without_command.ensures _ _ _ c.in-Err.ensures.answers;
       kept = unread_place _ _ (refl, refl);
       called = unread_called c.in-Err.fault c.end_without_command.result _ _ _ c.end_without_command.ensures (refl, refl) _ c.in-Err.ensures.answers;
       counts = record {
-        files = λ is. absurd (not_of_words _ _ ended (λ h. h) is);
-        input = λ is. absurd (not_of_words _ _ ended (λ h. h) is);
-        output = λ is. absurd (not_of_words _ _ ended (λ h. h) is);
-        binder = λ is. absurd (not_of_words _ _ ended (λ h. h) is);
-        sinks = λ is. absurd (not_of_words _ _ ended (λ h. h) is);
-        files_kept = λ _. refl;
-        input_kept = λ _. refl;
-        output_kept = λ _. refl;
-        binder_kept = λ _. refl;
-        sinks_kept = λ _. refl;
+        files = record { rose = λ is. absurd (not_of_words _ _ ended (λ h. h) is); kept = λ _. refl };
+        input = record { rose = λ is. absurd (not_of_words _ _ ended (λ h. h) is); kept = λ _. refl };
+        output = record { rose = λ is. absurd (not_of_words _ _ ended (λ h. h) is); kept = λ _. refl };
+        binder = record { rose = λ is. absurd (not_of_words _ _ ended (λ h. h) is); kept = λ _. refl };
+        sinks = record { rose = λ is. absurd (not_of_words _ _ ended (λ h. h) is); kept = λ _. refl };
       };
     }

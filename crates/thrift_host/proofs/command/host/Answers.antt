@@ -2,7 +2,7 @@ use Rattle.std.proofs.Common.{map}
 use Rattle.command_line.specs.Words.{words_of}
 use Rattle.std.specs.Prelude.{string_bytes}
 use Rattle.thrift_host.specs.Surroundings.{Surroundings}
-use Rattle.thrift_host.proofs.Completed.{only_done}
+use Rattle.thrift_host.proofs.Completed.{ends_well}
 use Rattle.thrift_host.proofs.command.host.Goals as goal
 
 pub returns : goal.returns
@@ -30,6 +30,6 @@ returns g c =
       kept = c.command_of.ensures.kept;
       counts = c.command_of.ensures.counts;
       complete = λ asked none.
-          only_done c.an_idl_has_one_verdict.ensures c.what_is_bound_is_not_refused.ensures c.a_break_is_no_compatibility.ensures (words_of (map string_bytes c.args.words.now))
-          (map g.H.Handler.service c.args.handlers.items) c.command_of.result before after c.command_of.ensures.means c.command_of.ensures.counts asked none;
+          ends_well c.an_idl_has_one_verdict.ensures c.what_is_bound_is_not_refused.ensures c.a_break_is_no_compatibility.ensures (words_of (map string_bytes c.args.words.now))
+          (map g.H.Handler.service c.args.handlers.items) c.command_of.result before after c.command_of.ensures.means c.command_of.ensures.called c.command_of.ensures.counts asked none;
     }

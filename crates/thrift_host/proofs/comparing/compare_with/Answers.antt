@@ -1,7 +1,7 @@
 use Rattle.std.proofs.Common.{refl, None}
 use Rattle.schema.specs.SchemaOf.{schema_of}
 use Rattle.thrift_host.proofs.Compared.{second_means, second_said, compared_means, compared_said}
-use Rattle.thrift_host.proofs.Ended.{never_done}
+use Rattle.thrift_host.proofs.Ended.{read_reason}
 use Rattle.thrift_host.proofs.comparing.compare_with.Goals as goal
 
 pub returns-in-Ok-clause-means : goal.returns-in-Ok-clause-means
@@ -23,4 +23,4 @@ returns-in-Err-clause-said g c = λ old has.
     c.in-Err.ensures.schema c.end_without_schema.ensures
 
 pub returns-in-Err-clause-files_kept : goal.returns-in-Err-clause-files_kept
-returns-in-Err-clause-files_kept g c is = absurd (never_done c.in-Err.reason _ _ c.end_without_schema.ensures is)
+returns-in-Err-clause-files_kept g c not_it = c.in-Err.ensures.quiet (read_reason _ _ c.in-Err.reason c.end_without_schema.ensures not_it)

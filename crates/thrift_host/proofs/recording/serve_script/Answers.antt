@@ -1,12 +1,11 @@
 use Rattle.std.proofs.Common.{Err, map, refl}
-use Rattle.streams.proofs.Causes.{on_ok}
 use Rattle.processor.specs.Offices.{plain_office}
 use Rattle.command_line.specs.Answering.{plain_served}
 use Rattle.recorded_runs.specs.Recorded.{Streams}
 use Rattle.recorded_runs.specs.declared.fault.ServingFault.TheVariants.{ReadFault, WriteFault}
 use Rattle.thrift_host.specs.Runs.{AskedRun, recording}
 use Rattle.thrift_host.proofs.Ran.{untouched_fault, not_unanswered}
-use Rattle.thrift_host.proofs.Told.{run_tells, run_reads, run_fault, run_kept}
+use Rattle.thrift_host.proofs.Told.{run_tells, run_reads, run_fault, run_isnt}
 use Rattle.thrift_host.proofs.recording.serve_script.Goals as goal
 
 pub returns-in-Ok-clause-tells : goal.returns-in-Ok-clause-tells
@@ -35,13 +34,13 @@ pub returns-in-Ok-clause-write_fault : goal.returns-in-Ok-clause-write_fault
 returns-in-Ok-clause-write_fault g c = λ is. c.run_recording.ensures.write_fault (run_fault c.run_recording.result c.run_of.result c.run_of.ensures WriteFault is)
 
 pub returns-in-Ok-clause-files_kept : goal.returns-in-Ok-clause-files_kept
-returns-in-Ok-clause-files_kept g c = on_ok c.run_of.result c.in-Ok.ensures.files_kept
+returns-in-Ok-clause-files_kept g c = λ _. c.in-Ok.ensures.files_kept refl
 
 pub returns-in-Ok-clause-input_kept : goal.returns-in-Ok-clause-input_kept
-returns-in-Ok-clause-input_kept g c = run_kept c.run_recording.result c.run_of.result c.run_of.ensures _ c.run_recording.ensures.input_kept
+returns-in-Ok-clause-input_kept g c = λ not_it. c.run_recording.ensures.input_kept (run_isnt c.run_recording.result c.run_of.result c.run_of.ensures ReadFault not_it)
 
 pub returns-in-Ok-clause-output_kept : goal.returns-in-Ok-clause-output_kept
-returns-in-Ok-clause-output_kept g c = run_kept c.run_recording.result c.run_of.result c.run_of.ensures _ c.run_recording.ensures.output_kept
+returns-in-Ok-clause-output_kept g c = λ not_it. c.run_recording.ensures.output_kept (run_isnt c.run_recording.result c.run_of.result c.run_of.ensures WriteFault not_it)
 
 pub returns-in-Err-clause-tells : goal.returns-in-Err-clause-tells
 returns-in-Err-clause-tells g c =

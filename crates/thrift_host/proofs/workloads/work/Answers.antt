@@ -1,8 +1,7 @@
-use Rattle.std.proofs.Common.{Err, map}
-use Rattle.streams.proofs.Causes.{on_ok}
+use Rattle.std.proofs.Common.{Err, map, refl}
 use Rattle.command_line.specs.Answering.{plain_served}
 use Rattle.recorded_runs.specs.declared.fault.ServingFault.TheVariants.{WriteFault}
-use Rattle.thrift_host.proofs.Told.{workload_tells, run_reads, run_fault, run_kept}
+use Rattle.thrift_host.proofs.Told.{workload_tells, run_reads, run_fault, run_isnt}
 use Rattle.thrift_host.proofs.Worked.{untouched_workload, not_unworked}
 use Rattle.thrift_host.proofs.workloads.work.Goals as goal
 
@@ -19,10 +18,10 @@ pub returns-in-Ok-clause-write_fault : goal.returns-in-Ok-clause-write_fault
 returns-in-Ok-clause-write_fault g c = λ is. c.run_workload.ensures.write_fault (run_fault c.run_workload.result c.run_of.result c.run_of.ensures WriteFault is)
 
 pub returns-in-Ok-clause-files_kept : goal.returns-in-Ok-clause-files_kept
-returns-in-Ok-clause-files_kept g c = on_ok c.run_of.result c.in-Ok.ensures.files_kept
+returns-in-Ok-clause-files_kept g c = λ _. c.in-Ok.ensures.files_kept refl
 
 pub returns-in-Ok-clause-output_kept : goal.returns-in-Ok-clause-output_kept
-returns-in-Ok-clause-output_kept g c = run_kept c.run_workload.result c.run_of.result c.run_of.ensures _ c.run_workload.ensures.output_kept
+returns-in-Ok-clause-output_kept g c = λ not_it. c.run_workload.ensures.output_kept (run_isnt c.run_workload.result c.run_of.result c.run_of.ensures WriteFault not_it)
 
 pub returns-in-Err-clause-tells : goal.returns-in-Err-clause-tells
 returns-in-Err-clause-tells g c = λ left.
