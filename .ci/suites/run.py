@@ -12,6 +12,7 @@ before the last has the counts: N passed, N failed, and behind that N skipped, w
 """
 import concurrent.futures
 import os
+import signal
 import sys
 from dataclasses import dataclass
 from typing import Callable
@@ -186,6 +187,8 @@ def main(words):
 
 
 if __name__ == "__main__":
+    # A command in the background may be told to ignore Ctrl-C, and so would be what it starts.
+    signal.signal(signal.SIGINT, signal.default_int_handler)
     try:
         sys.exit(main(sys.argv[1:]))
     except KeyboardInterrupt:

@@ -120,15 +120,18 @@ def follow(program):
             journal.write(b"call 1 0 0 f {} empty\ncall 2 0 0")
             words = [os.path.join(TOP, "tools/json"), "--follow", path]
             with subprocess.Popen(words, stdout=subprocess.PIPE, env=settings(program)) as run:
-                demand(next_line(run.stdout) == ("call", 1), "the first line")
-                journal.write(b" f {} empty\n")
-                demand(next_line(run.stdout) == ("call", 2), "the second line")
-                journal.truncate(0)
-                journal.seek(0)
-                journal.write(b"call 3 0 0 f {} empty\n")
-                demand(next_line(run.stdout) == ("call", 3), "the line of the file that was emptied")
-                run.send_signal(signal.SIGINT)
-                demand(run.wait(SECONDS) == 130, "status %s at Ctrl-C", run.returncode)
+                try:
+                    demand(next_line(run.stdout) == ("call", 1), "the first line")
+                    journal.write(b" f {} empty\n")
+                    demand(next_line(run.stdout) == ("call", 2), "the second line")
+                    journal.truncate(0)
+                    journal.seek(0)
+                    journal.write(b"call 3 0 0 f {} empty\n")
+                    demand(next_line(run.stdout) == ("call", 3), "the line of the file that was emptied")
+                    run.send_signal(signal.SIGINT)
+                    demand(run.wait(SECONDS) == 130, "status %s at Ctrl-C", run.returncode)
+                finally:
+                    run.kill()
 
 
 # Runs a command, and writes the most memory that it takes, in KB. (A process that is started counts what the one that
