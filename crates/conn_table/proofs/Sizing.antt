@@ -11,7 +11,7 @@ use Rattle.conn_state.specs.Phase.{Phase, ConnView, wanted, size_asked, sizing, 
 use Rattle.conn_state.specs.Step.{after_admission, after_size, after_payload_bytes, after_bytes, after_took, after_answer, after_wrote, after_end_of_input}
 use Rattle.conn_table.specs.declared.places.Slot.{Slot}
 use Rattle.conn_table.specs.Slots.{slot_in, with_slot, with_added, without_number}
-use Rattle.conn_table.specs.Table.{TableView, fresh_slot, slot_of, with_state, with_size, size_given, sizes_given, TakesRoom, HasItsSize, IsAdmitted, IsSoundTable}
+use Rattle.conn_table.specs.Table.{TableView, fresh_slot, slot_of, with_state, size_given, sizes_given, TakesRoom, HasItsSize, IsAdmitted, IsSoundTable}
 use Rattle.conn_table.proofs.Placing.{value_of, has_value}
 
 -- what is kept of an open connection
@@ -44,22 +44,6 @@ found_put new (x ∷ slots) s = go (cases_eq x.number new.number) (λ f. found_p
         ap (λ t. slot_in new.number (if t then new ∷ slots else x ∷ with_slot new slots)) (ne_eqb x.number new.number n)
         ∙ ap (λ t. if t then Some x else slot_in new.number (with_slot new slots)) (ne_eqb x.number new.number n)
         ∙ again (subst (λ t. IsSome (if t then Some x else slot_in new.number slots)) (ne_eqb x.number new.number n) s)
-
--- the last of two that are put there stays
-put_twice : (one two : Slot) (slots : List Slot) → one.number ≡ two.number → with_slot two (with_slot one slots) ≡ with_slot two slots
-put_twice one two [] e = refl
-put_twice one two (x ∷ slots) e = go (cases_eq x.number one.number) (put_twice one two slots e)
-  where
-    go : (x.number ≡ one.number) ⊎ (x.number ≡ one.number → ⊥) → with_slot two (with_slot one slots) ≡ with_slot two slots → with_slot two (with_slot one (x ∷ slots)) ≡ with_slot two (x ∷ slots)
-    go (inl is) again =
-        ap (λ t. with_slot two (if t then one ∷ slots else x ∷ with_slot one slots)) (eq-eqb x.number one.number is)
-        ∙ ap (λ t. if t then two ∷ slots else one ∷ with_slot two slots) (eq-eqb one.number two.number e)
-        ∙ sym (ap (λ t. if t then two ∷ slots else x ∷ with_slot two slots) (eq-eqb x.number two.number (is ∙ e)))
-    go (inr n) again =
-        ap (λ t. with_slot two (if t then one ∷ slots else x ∷ with_slot one slots)) (ne_eqb x.number one.number n)
-        ∙ ap (λ t. if t then two ∷ with_slot one slots else x ∷ with_slot two (with_slot one slots)) (ne_eqb x.number two.number (λ f. n (f ∙ sym e)))
-        ∙ ap (λ l. x ∷ l) again
-        ∙ sym (ap (λ t. if t then two ∷ slots else x ∷ with_slot two slots) (ne_eqb x.number two.number (λ f. n (f ∙ sym e))))
 
 all_put : (P : Slot → Type 0) (new : Slot) (slots : List Slot) → AllByRecursion P slots → P new → AllByRecursion P (with_slot new slots)
 all_put P new [] a p = tt
@@ -227,12 +211,11 @@ put_same new (x ∷ slots) e = go (cases_eq x.number new.number) (λ f. put_same
         ap (λ t. if t then new ∷ slots else x ∷ with_slot new slots) (ne_eqb x.number new.number n)
         ∙ ap (λ l. x ∷ l) (again (sym (ap (λ t. if t then Some x else slot_in new.number slots) (ne_eqb x.number new.number n)) ∙ e))
 
--- a state that is as it was
-pub conn_same : (c : ℕ) (slots : List Slot) → IsSome (slot_in c slots) → with_state c (slot_of c slots).conn slots ≡ slots
-conn_same c slots there =
+-- what is kept of a number, put back, changes nothing
+pub same_put : (c : ℕ) (slot : Slot) (slots : List Slot) → IsSome (slot_in c slots) → slot ≡ slot_of c slots → with_slot slot slots ≡ slots
+same_put c slot slots there is =
     let own : (slot_of c slots).number ≡ c = found_number c slots (slot_of c slots) (slot_is c slots there) in
-    ap (λ k. with_slot (record { number = k; conn = (slot_of c slots).conn; size = (slot_of c slots).size }) slots) (sym own)
-    ∙ put_same (slot_of c slots) slots (ap (λ k. slot_in k slots) own ∙ slot_is c slots there)
+    ap (λ (s : Slot). with_slot s slots) is ∙ put_same (slot_of c slots) slots (ap (λ k. slot_in k slots) own ∙ slot_is c slots there)
 
 -- one with another size and state is put in the place of one: the table is sound with the new sum
 pub resized_sound : (slots : List Slot) (budget admitted next c : ℕ) (conn : ConnView) (size : Option ℕ) → IsSoundTable slots budget admitted → IsSome (slot_in c slots)
@@ -355,16 +338,3 @@ pub conn_put : (c : ℕ) (conn : ConnView) (slots : List Slot) → IsSome (slot_
 conn_put c conn slots there =
     let new : Slot = record { number = c; conn = conn; size = (slot_of c slots).size } in
     ap (λ (s : Slot). s.conn) (of_found c (with_slot new slots) new (found_put new slots there))
-
--- a state and then a size, put in the place of both
-pub both_put : (c : ℕ) (conn : ConnView) (size : Option ℕ) (slots : List Slot) → IsSome (slot_in c slots)
-    → with_size c size (with_state c conn slots) ≡ with_slot (record { number = c; conn = conn; size = size }) slots
-both_put c conn size slots there =
-    ap (λ (v : ConnView). with_slot (record { number = c; conn = v; size = size }) (with_state c conn slots)) (conn_put c conn slots there)
-    ∙ put_twice (record { number = c; conn = conn; size = (slot_of c slots).size }) (record { number = c; conn = conn; size = size }) slots refl
-
--- a connection is open whatever its state
-pub still_open : (c : ℕ) (conn : ConnView) (slots : List Slot) → IsSome (slot_in c slots) → IsSome (slot_in c (with_state c conn slots))
-still_open c conn slots there =
-    let new : Slot = record { number = c; conn = conn; size = (slot_of c slots).size } in
-    has_value (slot_in c (with_state c conn slots)) new (found_put new slots there)

@@ -71,6 +71,21 @@ with_admitted c old =
     let conn : ConnView = (slot_of c old.slots).conn in
     record old { slots = with_slot (record { number = c; conn = record conn { phase = after_admission conn.phase }; size = size_asked conn.phase }) old.slots }
 
+-- What is kept of a connection whose frame waits is admitted within some room: its size fits and is admitted; it doesn't fit; or it fits and memory runs out.
+abbrev pub AdmitsSlot : {E : Type 0} → ℕ → Slot → Result (Option ℕ) E → Slot → Type 0
+AdmitsSlot room old (Ok (Some size)) new =
+    (size ≤ room) × (size_asked old.conn.phase ≡ Some size) × (new ≡ record { number = old.number; conn = record old.conn { phase = after_admission old.conn.phase }; size = Some size })
+AdmitsSlot room old (Ok None) new = (room < size_wanted old.conn) × (new ≡ old)
+AdmitsSlot room old (Err error) new = (size_wanted old.conn ≤ room) × (new ≡ old)
+
+-- the same among all that is kept
+abbrev pub AdmitsFrame : {E : Type 0} → ℕ → ℕ → List Slot → Result (Option ℕ) E → List Slot → Type 0
+AdmitsFrame room c old (Ok (Some size)) new =
+    let conn : ConnView = (slot_of c old).conn in
+    (size ≤ room) × (size_asked conn.phase ≡ Some size) × (new ≡ with_slot (record { number = c; conn = record conn { phase = after_admission conn.phase }; size = Some size }) old)
+AdmitsFrame room c old (Ok None) new = (room < size_wanted (slot_of c old).conn) × (new ≡ old)
+AdmitsFrame room c old (Err error) new = (size_wanted (slot_of c old).conn ≤ room) × (new ≡ old)
+
 -- An admission: its size fits and is admitted; the budget has no room for it; or it fits and memory runs out.
 abbrev pub Admits : {E : Type 0} → ℕ → TableView → Result Bool E → TableView → Type 0
 Admits c old (Ok true) new = (sizes_given old.slots + size_wanted (slot_of c old.slots).conn ≤ old.budget) × (new ≡ with_admitted c old)

@@ -14,6 +14,7 @@
 //! ```
 #![tactic(auto)]
 
+mod hints;
 pub mod laws;
 mod places;
 mod run_limits;

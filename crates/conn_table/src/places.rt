@@ -2,9 +2,11 @@
 
 ghost use Rattle.std.specs.Prelude.{◌≡◌, ◌<◌, ◌≤◌, IsSome, Some, None, IfOk, [], length};
 ghost use Rattle.conn_table.specs.Rows.{key_in, IsRising, rank_below};
-ghost use Rattle.conn_table.specs.Table.{slot_of, with_size};
+ghost use Rattle.conn_state.specs.Phase.{IsHeld};
+ghost use Rattle.conn_table.specs.Table.{slot_of, with_size, AdmitsSlot, AdmitsFrame};
 ghost use Rattle.conn_table.specs.Slots.{most_connections, slot_in, with_added, without_number, HaveRisingNumbers};
 
+use crate::hints::Hints;
 use conn_state::Conn;
 use limits::MOST_CONNECTIONS;
 use slab::Slab;
@@ -38,6 +40,8 @@ pub(crate) struct Places {
     slots: Slab<Slot>,
     /// Their keys, by rising number.
     rows: Vec<Row>,
+    /// Where a row is looked for before it is searched for.
+    hints: Hints,
 }
 
 impl Model for Places {
@@ -72,26 +76,52 @@ fn rank_by_search(rows: &[Row], number: u32) -> usize
     low
 }
 
-/// How many rows are in front of this number. One whose number is its place is found without a search.
-fn rank_of(rows: &[Row], number: u32) -> usize
+/// How many rows are in front of this number. One that stands at the place of the hint is found without a search.
+fn rank_of(rows: &[Row], hint: usize, number: u32) -> usize
     requires { IsRising rows.now }
     ensures rank_below { result ≡ rank_below number rows.now }
     ensures within { result ≤ length rows.now }
 {
-    let place = number as usize;
-    if place < rows.len() && rows[place].number == number {
-        return place;
+    if hint < rows.len() && rows[hint].number == number {
+        return hint;
     }
     rank_by_search(rows, number)
 }
 
 /// The key of a connection.
-fn key_of(rows: &[Row], number: u32) -> usize
+fn key_of(rows: &[Row], hint: usize, number: u32) -> usize
     requires rising { IsRising rows.now }
     requires open { IsSome (key_in number rows.now) }
     ensures { key_in number rows.now ≡ Some result }
 {
-    rows[rank_of(rows, number)].key
+    rows[rank_of(rows, hint, number)].key
+}
+
+impl Slot {
+    /// Admits the frame that waits, where its size is within this room, and takes memory for it. It answers the size.
+    fn admit(&mut self, alloc: Global, room: u64) -> Result<Option<u32>, AllocError>
+        requires { IsHeld self.old.conn.phase }
+        ensures { AdmitsSlot room self.old result self.new }
+    {
+        let size = self.conn.asks().unwrap();
+        if room < size as u64 {
+            return Ok(None);
+        }
+        self.conn.admit(alloc)?;
+        self.size = Some(size);
+        Ok(Some(size))
+    }
+
+    /// Takes the size that is admitted off it.
+    fn release(&mut self) -> u32
+        requires { IsSome self.old.size }
+        ensures size { self.old.size ≡ Some result }
+        ensures after { self.new ≡ record self.old { size = None } }
+    {
+        let size = self.size.unwrap();
+        self.size = None;
+        size
+    }
 }
 
 impl Places {
@@ -105,6 +135,7 @@ impl Places {
         Ok(Places {
             slots: Slab::with_capacity(alloc, MOST_CONNECTIONS)?,
             rows: Vec::with_capacity(alloc, MOST_CONNECTIONS)?,
+            hints: Hints::new(alloc)?,
         })
     }
 
@@ -122,7 +153,7 @@ impl Places {
         requires { IsSome (slot_in number self.now) }
         ensures { slot_in number self.now ≡ Some result.now }
     {
-        &self.slots[key_of(self.rows.as_slice(), number)]
+        &self.slots[key_of(self.rows.as_slice(), self.hints.of(number), number)]
     }
 
     /// Lends the state of a connection, to be changed in its place.
@@ -131,18 +162,35 @@ impl Places {
         ensures* writes_back { sem 𝓛 (LendsState self.entry number result) }
         ensures state { result.now ≡ (slot_of number self.old).conn }
     {
-        let key = key_of(self.rows.as_slice(), number);
+        let key = key_of(self.rows.as_slice(), self.hints.of(number), number);
         let slot = &mut self.slots[key];
         &mut slot.conn
     }
 
-    /// Sets the size that is admitted of a connection.
-    pub(crate) fn set_size(&mut self, number: u32, size: Option<u32>)
-        requires { IsSome (slot_in number self.old) }
-        ensures { self.new ≡ with_size number size self.old }
+    /// Admits the frame of a connection that waits, where its size is within this room, and takes memory for it. It answers the size.
+    pub(crate) fn admit(
+        &mut self,
+        alloc: Global,
+        number: u32,
+        room: u64,
+    ) -> Result<Option<u32>, AllocError>
+        requires open { IsSome (slot_in number self.old) }
+        requires held { IsHeld (slot_of number self.old).conn.phase }
+        ensures { AdmitsFrame room number self.old result self.new }
     {
-        let key = key_of(self.rows.as_slice(), number);
-        self.slots[key].size = size;
+        let key = key_of(self.rows.as_slice(), self.hints.of(number), number);
+        self.slots[key].admit(alloc, room)
+    }
+
+    /// Takes the size that is admitted of a connection off it.
+    pub(crate) fn release(&mut self, number: u32) -> u32
+        requires open { IsSome (slot_in number self.old) }
+        requires admitted { IsSome (slot_of number self.old).size }
+        ensures size { (slot_of number self.old).size ≡ Some result }
+        ensures after { self.new ≡ with_size number None self.old }
+    {
+        let key = key_of(self.rows.as_slice(), self.hints.of(number), number);
+        self.slots[key].release()
     }
 
     /// Adds a connection.
@@ -152,9 +200,10 @@ impl Places {
         ensures { self.new ≡ with_added slot self.old }
     {
         let number = slot.number;
-        let place = rank_of(self.rows.as_slice(), number);
+        let place = rank_of(self.rows.as_slice(), self.hints.of(number), number);
         let key = self.slots.insert_reserved(slot);
         let _ = self.rows.insert(place, Row { number, key });
+        self.hints.note(self.rows.as_slice(), place);
     }
 
     /// Takes a connection out.
@@ -164,8 +213,9 @@ impl Places {
         ensures new { self.new ≡ without_number number self.old }
         ensures gone { slot_in number self.new ≡ None }
     {
-        let place = rank_of(self.rows.as_slice(), number);
+        let place = rank_of(self.rows.as_slice(), self.hints.of(number), number);
         let row = self.rows.remove(place);
+        self.hints.note(self.rows.as_slice(), place);
         self.slots.remove(row.key)
     }
 }

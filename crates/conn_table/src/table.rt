@@ -158,8 +158,7 @@ impl Table {
         requires idle { TakesRoom (slot_of c self.old.slots).conn.phase → ⊥ }
         ensures { self.new ≡ record self.old { slots = with_size c None self.old.slots } }
     {
-        let size = self.places.get(c).size.unwrap();
-        self.places.set_size(c, None);
+        let size = self.places.release(c);
         self.admitted -= size as u64;
     }
 
@@ -183,12 +182,10 @@ impl Table {
         requires unadmitted { (slot_of c self.old.slots).size ≡ None }
         ensures { Admits c self.old result self.new }
     {
-        let size = self.places.get(c).conn.asks().unwrap();
-        if self.read_budget - self.admitted < size as u64 {
+        let room = self.read_budget - self.admitted;
+        let Some(size) = self.places.admit(alloc, c, room)? else {
             return Ok(false);
-        }
-        self.places.conn_mut(c).admit(alloc)?;
-        self.places.set_size(c, Some(size));
+        };
         self.admitted += size as u64;
         Ok(true)
     }

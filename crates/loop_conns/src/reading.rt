@@ -3,7 +3,7 @@
 ghost use Rattle.std.specs.Prelude.{◌≡◌, ◌<◌, ◌≤◌, ◌^◌, true, IsSome, length, slice_index_or};
 ghost use Rattle.conn_state.specs.Phase.{wanted, IsReading};
 ghost use Rattle.conn_table.specs.Slots.{slot_in};
-ghost use Rattle.conn_table.specs.Table.{slot_of};
+ghost use Rattle.conn_table.specs.Table.{slot_of, HasItsSize};
 ghost use Rattle.loop_conns.specs.declared.connections.ConnStage.TheVariants.{Gone};
 ghost use Rattle.loop_conns.specs.Ended.{IsNumbered, HasSizeBy};
 ghost use Rattle.loop_conns.specs.Going.{SomeLoopIsRunning, KeepsGoing, ReadsAt, ReadTells, TakesIn};
@@ -49,12 +49,13 @@ impl LoopConnections {
         ensures budget { self.new.table.budget ≡ self.old.table.budget }
         ensures plan { L.plan links.new ≡ L.plan links.old }
     {
-        if self.table.conn(c).frames() >= MOST_FRAMES {
+        let frames = self.table.conn(c).frames();
+        if frames >= MOST_FRAMES {
             self.end(links, c, EndCause::NoMemory);
             return ReadStep::Over;
         }
         match links.read(c, into) {
-            Taken::Bytes(count) => self.take_in(links, c, &into[..count], max_frame),
+            Taken::Bytes(count) => self.take_in(links, c, &into[..count], max_frame, frames),
             Taken::End => {
                 self.table.end_of_input(c);
                 self.release_and_close(links, c);
@@ -72,13 +73,22 @@ impl LoopConnections {
         }
     }
 
-    /// Takes in bytes that were read.
-    fn take_in<L: Links>(&mut self, links: &mut L, c: u32, bytes: &[u8], max_frame: u32) -> ReadStep
+    /// Takes in bytes that were read, where so many frames were whole before.
+    fn take_in<L: Links>(
+        &mut self,
+        links: &mut L,
+        c: u32,
+        bytes: &[u8],
+        max_frame: u32,
+        frames: u64,
+    ) -> ReadStep
         requires there { IsSome (slot_in c self.old.table.slots) }
         requires reading { IsReading (slot_of c self.old.table.slots).conn.phase }
         requires some { 0 < length bytes.now }
         requires asked { length bytes.now ≤ wanted (slot_of c self.old.table.slots).conn.phase }
         requires counted { (slot_of c self.old.table.slots).conn.frames < 2 ^ 62 }
+        requires before { frames ≡ (slot_of c self.old.table.slots).conn.frames }
+        requires admitted { HasItsSize (slot_of c self.old.table.slots).conn.phase (slot_of c self.old.table.slots).size }
         requires size { HasSizeBy (slice_index_or self.old.stages.items c Gone) (slot_of c self.old.table.slots).size }
         requires known { IsNumbered c self.old }
         requires link { (L.state links.old).is_open c ≡ true }
@@ -89,17 +99,17 @@ impl LoopConnections {
         ensures budget { self.new.table.budget ≡ self.old.table.budget }
         ensures plan { L.plan links.new ≡ L.plan links.old }
     {
-        let frames = self.table.conn(c).frames();
         self.table.took(c, bytes, max_frame);
-        if self.table.conn(c).cause().is_some() {
+        let conn = self.table.conn(c);
+        if conn.cause().is_some() {
             self.release_and_close(links, c);
             return ReadStep::Over;
         }
-        if self.table.conn(c).frames() > frames {
+        if conn.frames() > frames {
             self.owing += 1;
             return ReadStep::Whole;
         }
-        if self.table.conn(c).asks().is_some() {
+        if conn.asks().is_some() {
             return ReadStep::Sized;
         }
         ReadStep::More
