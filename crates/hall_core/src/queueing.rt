@@ -1,4 +1,4 @@
-//! The steps of a hall that its services have no part in. None takes memory.
+//! The steps of a hall that its services have no part in. None takes memory. Each is a part of its caller, so that no reply is stored to be read again.
 
 ghost use Rattle.std.specs.Prelude.{◌≡◌, ◌<◌, true};
 ghost use Rattle.call_rules.specs.Handling.{handler_rules};
@@ -17,6 +17,7 @@ use call_rules::Key;
 use streams::{Bytes, Settled};
 
 /// Submits a job.
+#[inline(always)]
 pub(crate) fn submit(queue: &mut Queue, closed: bool, key: Key, payload: Bytes) -> HallReply
     requires { keys_held queue.old < most_connections }
     ensures { (hall : ServedHall) → hall.closed ≡ closed → SeenGives handler_rules (with_queue hall queue.old) (rule.submit key payload) (answer_of result) (with_queue hall queue.new) }
@@ -29,6 +30,7 @@ pub(crate) fn submit(queue: &mut Queue, closed: bool, key: Key, payload: Bytes) 
 }
 
 /// Takes the oldest job.
+#[inline(always)]
 pub(crate) fn take(queue: &mut Queue, closed: bool) -> HallReply
     ensures { (hall : ServedHall) → hall.closed ≡ closed → SeenGives handler_rules (with_queue hall queue.old) rule.take_job (answer_of result) (with_queue hall queue.new) }
 {
@@ -42,6 +44,7 @@ pub(crate) fn take(queue: &mut Queue, closed: bool) -> HallReply
 }
 
 /// Puts the outcome of a job.
+#[inline(always)]
 pub(crate) fn put(queue: &mut Queue, key: Key, settled: Settled) -> HallReply
     requires { has_key key queue.old.taken ≡ true }
     ensures { (hall : ServedHall) → SeenGives handler_rules (with_queue hall queue.old) (rule.put key settled) (answer_of result) (with_queue hall queue.new) }
@@ -51,6 +54,7 @@ pub(crate) fn put(queue: &mut Queue, key: Key, settled: Settled) -> HallReply
 }
 
 /// Collects the oldest outcome.
+#[inline(always)]
 pub(crate) fn collect(queue: &mut Queue, closed: bool) -> HallReply
     ensures { (hall : ServedHall) → hall.closed ≡ closed → SeenGives handler_rules (with_queue hall queue.old) rule.collect (answer_of result) (with_queue hall queue.new) }
 {

@@ -43,22 +43,8 @@ impl<O: Object, D> Service<O, D> {
     }
 }
 
-/// Rings so often, whether there is memory for a ring or not.
-fn ring_out<R: Wait>(rt: &R, door: &Door, rings: u64) {
-    for _ in 0..rings {
-        let _ = door.ring(rt);
-    }
-}
-
-/// Leads, and then rings once for each worker, so that it finds the hall closed; and once more, since an earlier ring may have
-/// been refused for memory.
-fn call_and_ring<R: Wait, T, F: FnOnce(u32) -> T>(
-    rt: &R,
-    door: &Door,
-    workers: u32,
-    started: u32,
-    lead: &mut Option<F>,
-) -> T
+/// Leads, and closes the door behind that, so that each worker finds the hall closed.
+fn call_and_close<T, F: FnOnce(u32) -> T>(door: &Door, started: u32, lead: &mut Option<F>) -> T
     requires { MatchOption lead.old ⊥ (λ l. F.IsAlwaysCallable l) }
     ensures { MatchOption lead.old ⊥ (λ l. F.post l started result) }
 {
@@ -66,9 +52,7 @@ fn call_and_ring<R: Wait, T, F: FnOnce(u32) -> T>(
         unreachable!()
     };
     let led = lead(started);
-    if workers > 0 {
-        ring_out(rt, door, u64::from(workers) + 1);
-    }
+    door.close();
     led
 }
 
@@ -141,7 +125,6 @@ fn with_rest<
     rt: &R,
     place: &Workplace<Hall<H, J>, D, G, B>,
     mut seats: Vec<Seat<Hall<H, J>>>,
-    workers: u32,
     started: u32,
     lead: &mut Option<F>,
 ) -> (T, Vec<Seat<Hall<H, J>>>)
@@ -154,7 +137,7 @@ fn with_rest<
     ensures room { (vec_len result.1 ≡ vec_len seats) × (vec_capacity result.1 ≡ vec_capacity seats) }
 {
     let Some(seat) = seats.pop() else {
-        return (call_and_ring(rt, place.door, workers, started, lead), seats);
+        return (call_and_close(place.door, started, lead), seats);
     };
     let worker = Worker::new(seat);
     let ((led, mut seats), worker) = beside(
@@ -170,7 +153,7 @@ fn with_rest<
             ensures seats { All (HasServed (D.meaning place.entry.now.desk.now) place.entry.now.booth.now) result.1.items }
             ensures numbers { numbers_of result.1.items ≡ numbers_of seats.items }
             ensures room { (vec_len result.1 ≡ vec_len seats) × (vec_capacity result.1 ≡ vec_capacity seats) }
-        { with_rest(rt, place, seats, workers, more, lead) },
+        { with_rest(rt, place, seats, more, lead) },
     );
     seats.push_reserved(worker.into_seat());
     (led, seats)
@@ -178,7 +161,7 @@ fn with_rest<
 
 /// Starts a worker for each seat on a thread of its own, leads in this thread, and takes every seat back: once what leads is done it
 /// joins each worker, or runs it here where no thread could be made. What leads is told how many were started, and closes the
-/// hall; then the door is rung once for each worker, and once more. So the door needs room for that beside the rings of jobs.
+/// hall; then the door is closed.
 pub fn with_crew<
     D: Desk + Sync,
     G: Gate + Sync,
@@ -202,7 +185,6 @@ pub fn with_crew<
     ensures numbers { numbers_of result.1.items ≡ numbers_of seats.items }
     ensures room { (vec_len result.1 ≡ vec_len seats) × (vec_capacity result.1 ≡ vec_capacity seats) }
 {
-    let workers = seats.len() as u32;
     let mut lead = Some(lead);
-    with_rest(rt, place, seats, workers, 0, &mut lead)
+    with_rest(rt, place, seats, 0, &mut lead)
 }

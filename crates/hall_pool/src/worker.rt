@@ -8,14 +8,14 @@ ghost use Rattle.hall_pool.specs.Turns.{asked_in, AddsTurn, AddsRun};
 ghost use Rattle.hall_pool.specs.Jobs.{IsOpenedFor, HoldsJob};
 
 use crate::asking::{close, put, take};
-use crate::door::{ChannelHandle, Door};
+use crate::door::{Door, DoorGate};
 use crate::settling::settle;
 use crate::turn::Turn;
 use call_rules::{Desk, Handler, Journal};
 use hall_core::{Hall, Job};
 use outside::{Bell, Gate};
 use seat_booth::{Booth, Object, Seat};
-use std::alloc::{AllocError, Global};
+use std::alloc::Global;
 use std::marker::Model;
 use std::sync::Wait;
 
@@ -60,14 +60,6 @@ fn work<D: Desk, G: Gate, H: Handler, J: Journal, R: Wait>(
     Turn::Worked(job.key)
 }
 
-/// Waits for a ring by the worker's own handle, if there was one for it.
-fn wait_at<R: Wait>(rt: &R, door: &Door, handle: &mut Result<ChannelHandle, AllocError>) {
-    match handle {
-        Ok(handle) => handle.wait(rt),
-        Err(_) => door.wait(rt),
-    }
-}
-
 impl<H: Handler, J: Journal> Worker<Hall<H, J>> {
     /// A worker with this seat, which has made no call.
     pub fn new(seat: Seat<Hall<H, J>>) -> Self
@@ -102,8 +94,8 @@ impl<H: Handler, J: Journal> Worker<Hall<H, J>> {
         }
     }
 
-    /// Makes turns until the hall is closed, or the journal has failed. It waits at the door before each, and rings the bell after
-    /// each job, and before it answers.
+    /// Makes turns until the hall is closed, or the journal has failed. It waits at the door where there is no job, and rings the bell
+    /// after each job, and before it answers.
     pub fn run<D: Desk + Sync, G: Gate + Sync, B: Bell, R: Wait>(
         self,
         rt: &R,
@@ -121,12 +113,16 @@ impl<H: Handler, J: Journal> Worker<Hall<H, J>> {
         ensures turns { AddsRun (D.meaning desk.now) self.mine result.0.mine result.1 }
     {
         let mut worker = self;
-        let mut handle = door.handle(rt);
+        let gate = DoorGate { gate, door };
+        let mut found: u32 = 0;
+        door.look();
         for _ in rt.forever() {
-            wait_at(rt, door, &mut handle);
-            match worker.turn(rt, alloc, booth, desk, gate) {
-                Turn::Worked(_) => bell.ring(rt),
-                Turn::Empty => {}
+            match worker.turn(rt, alloc, booth, desk, &gate) {
+                Turn::Worked(_) => {
+                    bell.ring(rt);
+                    found = found.saturating_add(1);
+                }
+                Turn::Empty => found = door.wait(rt, found),
                 Turn::Closed => {
                     bell.ring(rt);
                     return (worker, Turn::Closed);

@@ -11,20 +11,11 @@ use call_rules::{Desk, Handler, Journal, Key};
 use conn_table::Outcome;
 use hall_core::Hall;
 use outside::Links;
-use seat_booth::Object;
 use std::sync::Wait;
 use streams::Bytes;
 
-/// Rings the door, where workers wait at it. It answers whether there was memory for the ring.
-fn ring_door<O: Object, D, G, L: Links, R: Wait>(rt: &R, run: &Run<O, D, G, L>) -> bool {
-    if run.crewed {
-        return run.door.ring(rt).is_ok();
-    }
-    true
-}
-
 impl<H: Handler, J: Journal> Serving<Hall<H, J>> {
-    /// Submits the payload that is whole, and rings for it.
+    /// Submits the payload that is whole, and rings for it where workers wait at the door.
     pub(crate) fn submit_and_ring<L: Links, D: Desk, G, R: Wait>(
         &mut self,
         rt: &R,
@@ -38,12 +29,11 @@ impl<H: Handler, J: Journal> Serving<Hall<H, J>> {
     {
         let (i, payload) = self.conns.give(c);
         let key = Key { c, i };
+        run.door.announce();
         if !submit(rt, run.booth, &mut self.seat, key, Bytes::new(payload)) {
             return Err(Outcome::JournalFault);
         }
-        if ring_door(rt, run) {
-            return Ok(());
-        }
-        Err(Outcome::NoMemory)
+        run.door.ring();
+        Ok(())
     }
 }

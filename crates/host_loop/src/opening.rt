@@ -9,13 +9,9 @@ use crate::serving::Served;
 use call_rules::{Handler, Journal};
 use conn_table::{Ends, Outcome};
 use hall_pool::Door;
-use limits::MOST_CONNECTIONS;
 use loop_conns::LoopConnections;
 use outside::Links;
 use std::alloc::Global;
-
-/// So many rings may stand at the door: one for each job, and one for each worker with one more at the end.
-const MOST_RINGS: u32 = MOST_CONNECTIONS as u32 + 8 + 1;
 
 /// What a loop works with.
 #[derive(Drop)]
@@ -36,12 +32,11 @@ pub(crate) fn make_tools<L: Links>(
 {
     let conns = LoopConnections::new(alloc, read_budget).ok()?;
     let buffer = Buffer::new(alloc).ok()?;
-    let door = Door::new(alloc, MOST_RINGS).ok()?;
     let bell = links.bell(alloc).ok()?;
     Some(Tools {
         conns,
         buffer,
-        door,
+        door: Door::new(),
         bell,
     })
 }

@@ -132,7 +132,7 @@ impl Links for NetLinks {
             return Ok(Hint::Over);
         }
         let number = self.account.next_number(ask.room);
-        match self.sockets.watch(rt, number) {
+        match self.sockets.watch(rt, number, !ask.idle) {
             Ok(Hint::Opened(c)) => self.take_in(c),
             Ok(Hint::Readable(c)) => Ok(Hint::Readable(c)),
             Ok(Hint::Writable(c)) => Ok(Hint::Writable(c)),

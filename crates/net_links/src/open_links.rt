@@ -17,6 +17,9 @@ use std::mem;
 /// A block for the input and one for the output of each link.
 const BLOCKS: usize = 2 * MOST_CONNECTIONS;
 
+/// So many links have output that waits to be sent, at most. More would save no call of the system, since each link has its own, and take a block each.
+const MOST_UNSENT: usize = 128;
+
 /// The open links, by rising number.
 #[derive(Drop)]
 pub(crate) struct OpenLinks {
@@ -55,6 +58,11 @@ impl OpenLinks {
     /// Whether something is to be told of a link.
     pub(crate) fn is_ready(&self) -> bool {
         !self.ready.is_empty()
+    }
+
+    /// Whether output waits to be sent.
+    pub(crate) fn is_unsent(&self) -> bool {
+        !self.unsent.is_empty()
     }
 
     /// The place of a link. One that stands where it was found last is found without a search.
@@ -118,7 +126,7 @@ impl OpenLinks {
         self.moved = 0;
     }
 
-    /// Takes bytes off the front of `bytes`, to be sent on a link before the loop waits, or at once where the link can't be noted.
+    /// Takes bytes off the front of `bytes`, to be sent on a link before the loop waits, or at once where the link can't be noted, or too many are.
     pub(crate) fn write(&mut self, c: u32, bytes: &[u8]) -> Taken
         ensures within { MovesWithin (length bytes.now) result }
         ensures no_end { result ≢ End }
@@ -135,6 +143,9 @@ impl OpenLinks {
         if link.has_output() && !link.unsent {
             link.flush(&mut self.pool);
             list(&mut self.ready, link);
+        }
+        if self.unsent.len() >= MOST_UNSENT {
+            self.send_all();
         }
         taken
     }

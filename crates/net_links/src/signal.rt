@@ -3,9 +3,13 @@
 use mio::Waker;
 use outside::Bell;
 use std::alloc::Global;
+use std::hint::spin_loop;
 use std::io;
 use std::sync::atomic::{AtomicBool, Ordering};
 use std::sync::{Arc, Wait};
+
+/// So often it is looked for a ring that is owed: for about as long as sending takes. So the replies to calls that end soon after one another are sent at once.
+const LOOKS: u32 = 100;
 
 /// What rings of any thread and the loop share.
 ///
@@ -51,6 +55,17 @@ impl Signal {
     /// Whether it was rung since this was asked last.
     pub(crate) fn take(&self) -> bool {
         self.rung.load(Ordering::SeqCst) && self.rung.swap(false, Ordering::SeqCst)
+    }
+
+    /// Looks a little while for a ring. It answers whether it was rung.
+    pub(crate) fn comes(&self) -> bool {
+        for _ in 0..LOOKS {
+            if self.rung.load(Ordering::SeqCst) {
+                return true;
+            }
+            spin_loop();
+        }
+        false
     }
 
     /// The loop is about to wait. It may, where nobody has rung.

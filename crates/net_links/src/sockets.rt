@@ -107,8 +107,14 @@ impl Sockets {
         }
     }
 
-    /// Tells what is next, and waits where nothing is. A connection is accepted under this number, where there is one.
-    pub(crate) fn watch<R: Wait>(&mut self, rt: &R, number: Option<u32>) -> io::Result<Hint>
+    /// Tells what is next, and waits where nothing is; where a ring is owed and something was written, it looks for the ring a little before it sends that. A
+    /// connection is accepted under this number, where there is one.
+    pub(crate) fn watch<R: Wait>(
+        &mut self,
+        rt: &R,
+        number: Option<u32>,
+        owed: bool,
+    ) -> io::Result<Hint>
         ensures { TellsWithin number result }
     {
         self.asked = self.asked.saturating_add(1);
@@ -122,7 +128,9 @@ impl Sockets {
             if let Some(hint) = self.look(number)? {
                 return Ok(hint);
             }
-            self.pause(number.is_some())?;
+            if !owed || !self.links.is_unsent() || !self.signal.comes() {
+                self.pause(number.is_some())?;
+            }
         }
         unreachable!()
     }

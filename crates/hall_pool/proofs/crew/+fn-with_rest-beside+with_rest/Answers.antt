@@ -47,4 +47,4 @@ returns-clause-led g t c =
     led_on c.args.lead.now _ (rest.0 + vec_len c.pop.new.self) (c.args.started + vec_len c.args.seats) (omega (arith, rest.1)) rest.2.0
 
 pub returns-in_default-clause-led : goal.returns-in_default-clause-led
-returns-in_default-clause-led g t c = led_first c.args.lead.now _ c.args.started _ (omega arith) c.call_and_ring.ensures
+returns-in_default-clause-led g t c = led_first c.args.lead.now _ c.args.started _ (omega arith) c.call_and_close.ensures

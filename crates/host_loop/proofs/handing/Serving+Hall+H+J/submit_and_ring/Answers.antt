@@ -1,9 +1,8 @@
 use Rattle.std.proofs.Common.{[], sym, subst}
-use Rattle.conn_table.specs.declared.run_limits.Outcome.TheVariants.{NoMemory}
 use Rattle.machine_model.specs.HallState.{key_of}
 use Rattle.machine_model.specs.SeenHall.{filled}
 use Rattle.loop_conns.specs.Going.{AllHandOut}
-use Rattle.host_loop.proofs.Keeping.{some_goes_on, may_submit_here, serves_taken, halts_refused, halts}
+use Rattle.host_loop.proofs.Keeping.{some_goes_on, may_submit_here, serves_taken, halts_refused}
 use Rattle.host_loop.proofs.handing.Serving+Hall+H+J.submit_and_ring.Goals as goal
 
 pub give-i-requires-clause-under_way : goal.give-i-requires-clause-under_way
@@ -24,8 +23,5 @@ submit-requires-clause-may g c κs within = may_submit_here _ _ _ _ _ _ _ _ c.re
 pub returns-then-not-submit : goal.returns-then-not-submit
 returns-then-not-submit g c = record { kept = λ links s. halts_refused _ _ _ _ _ _ _ _ s c.give-i.new.self (key_of c.args.c c.give-i.result.0) c.new.result (subst (AllHandOut c.args.self.now.conns c.give-i.new.self (key_of c.args.c c.give-i.result.0)) (sym c.new.ensures) c.give-i.ensures.handed) c.give-i.ensures.budget c.submit.new.seat c.submit.result c.submit.ensures.submitted c.submit.ensures.seat c.submit.ensures.zeroth c.if-not-submit.true }
 
-pub returns-then-ring_door : goal.returns-then-ring_door
-returns-then-ring_door g c = record { kept = λ links s. serves_taken _ _ _ _ _ _ _ _ s c.give-i.new.self (key_of c.args.c c.give-i.result.0) c.new.result (subst (AllHandOut c.args.self.now.conns c.give-i.new.self (key_of c.args.c c.give-i.result.0)) (sym c.new.ensures) c.give-i.ensures.handed) c.give-i.ensures.budget c.submit.new.seat c.submit.result c.submit.ensures.submitted c.submit.ensures.seat c.submit.ensures.zeroth c.if-not-submit.false c.submit.ensures.own }
-
 pub returns : goal.returns
-returns g c = record { kept = λ links s. halts _ _ _ _ _ _ _ _ (serves_taken _ _ _ _ _ _ _ _ s c.give-i.new.self (key_of c.args.c c.give-i.result.0) c.new.result (subst (AllHandOut c.args.self.now.conns c.give-i.new.self (key_of c.args.c c.give-i.result.0)) (sym c.new.ensures) c.give-i.ensures.handed) c.give-i.ensures.budget c.submit.new.seat c.submit.result c.submit.ensures.submitted c.submit.ensures.seat c.submit.ensures.zeroth c.if-not-submit.false c.submit.ensures.own) NoMemory tt }
+returns g c = record { kept = λ links s. serves_taken _ _ _ _ _ _ _ _ s c.give-i.new.self (key_of c.args.c c.give-i.result.0) c.new.result (subst (AllHandOut c.args.self.now.conns c.give-i.new.self (key_of c.args.c c.give-i.result.0)) (sym c.new.ensures) c.give-i.ensures.handed) c.give-i.ensures.budget c.submit.new.seat c.submit.result c.submit.ensures.submitted c.submit.ensures.seat c.submit.ensures.zeroth c.if-not-submit.false c.submit.ensures.own }
