@@ -2,8 +2,9 @@
 """Counts the instructions of a call by `valgrind --tool=callgrind`: instructions.py [THRIFTD]
 
 Of recorded calls (mixes.py) it rehearses a short script and a longer one, and prints what a call more takes; of `add` it also prints what `serve` without workers takes
-a call, on one connection with one call under way and on 64 with 16, all of a run over the number of its calls. Behind each figure stand the parts of it, by what the
-functions are named for. It needs valgrind, objcopy and a C compiler, and takes some minutes.
+a call, on one connection with one call under way and on 64 with 16, all of a run over the number of its calls, on a server that has just begun, and on one that has
+lived: 64 connections have come and gone before it is counted. Behind each figure stand the parts of it, by what the functions are named for. It needs valgrind,
+objcopy and a C compiler, and takes some minutes.
 """
 import collections
 import os
@@ -16,6 +17,8 @@ import tempfile
 HERE = os.path.dirname(os.path.abspath(__file__))
 MIXES = [("add", "binary"), ("add", "compact"), ("calculate", "binary"), ("calculate", "compact"), ("mirror", "binary")]
 SHORT, LONG = "0.2", "0.6"
+# The calls of a run, and of the connections that came and went before it.
+CALLS, LIVED = 20000, 6400
 # What a function is counted under, by the first of these that its name has.
 GROUPS = [
     ("allocator", r"malloc|free|realloc|_int_|tcache|sysmalloc|unlink_chunk|alloc_perturb"),
@@ -41,12 +44,18 @@ def counted(program, words, **how):
 
 def by_group(out):
     told = subprocess.run(["callgrind_annotate", "--threshold=100", out], stdout=subprocess.PIPE, stderr=subprocess.DEVNULL, text=True, check=True).stdout
-    groups = collections.Counter()
+    groups, total = collections.Counter(), 0
     for line in told.splitlines():
         found = re.match(r"\s*([\d,]+) \(\s*[\d.]+%\)\s+(\S.*)", line)
-        if found and "PROGRAM TOTALS" not in line:
-            name = next((group for group, pattern in GROUPS if re.search(pattern, found[2])), "other")
-            groups[name] += int(found[1].replace(",", ""))
+        if found:
+            count = int(found[1].replace(",", ""))
+            name = next((group for group, pattern in GROUPS if re.search(pattern, found[2])), None)
+            if "PROGRAM TOTALS" in line:
+                total = count
+            elif name:
+                groups[name] += count
+    # (where the counts were set to 0 on the way, callgrind gives all that was called then to the functions that were under way)
+    groups["other"] = total - sum(groups.values())
     return groups
 
 
@@ -68,16 +77,20 @@ def free_port():
         return s.getsockname()[1]
 
 
-def served(program, load, connections, depth, folder):
-    """Instructions of a server that is loaded for some seconds, and its calls."""
+def served(program, load, connections, depth, folder, lived):
+    """Instructions of a server, and its calls; of one that has lived, where so many calls came on 64 connections before."""
     port, out = free_port(), os.path.join(folder, "served")
-    words = ["serve", "@tutorial", "binary", "0", "Calculator=calculator", "--listen", str(port), "--accept", str(connections), "--journal", "/dev/null"]
+    accepted = connections + (64 if lived else 0)
+    words = ["serve", "@tutorial", "binary", "0", "Calculator=calculator", "--listen", str(port), "--accept", str(accepted), "--journal", "/dev/null"]
     line = ["valgrind", "--tool=callgrind", "--callgrind-out-file=" + out, program, *words]
     with subprocess.Popen(line, stdout=subprocess.PIPE, stderr=subprocess.DEVNULL, text=True) as server:
         server.stdout.readline()
-        subprocess.run([load, str(port), str(connections), str(depth), "10"], stdout=subprocess.DEVNULL, check=True)
+        if lived:
+            subprocess.run([load, str(port), "64", "1", "x%d" % lived], stdout=subprocess.DEVNULL, check=True)
+            subprocess.run(["callgrind_control", "--zero", str(server.pid)], stdout=subprocess.DEVNULL, stderr=subprocess.DEVNULL, check=True)
+        subprocess.run([load, str(port), str(connections), str(depth), "x%d" % CALLS], stdout=subprocess.DEVNULL, check=True)
         told = server.stdout.read()
-    return by_group(out), int(told.split()[-1])
+    return by_group(out), int(told.split()[-1]) - lived
 
 
 def main(program=None):
@@ -93,7 +106,8 @@ def main(program=None):
             long, many = rehearsed(plain, mix, protocol, LONG, folder)
             tell("rehearse %s %s" % (mix, protocol), long - short, many - few)
         for connections, depth in ((1, 1), (64, 16)):
-            tell("serve add binary %dx%d" % (connections, depth), *served(plain, load, connections, depth, folder))
+            tell("serve add binary %dx%d" % (connections, depth), *served(plain, load, connections, depth, folder, 0))
+            tell("serve add binary %dx%d, lived" % (connections, depth), *served(plain, load, connections, depth, folder, LIVED))
 
 
 if __name__ == "__main__":

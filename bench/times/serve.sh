@@ -25,7 +25,7 @@ if command -v thrift > /dev/null; then
     kinds+=("nonblocking 0" "nonblocking 4")
   fi
   if command -v javac > /dev/null && [ -e /usr/share/java/thrift.jar ]; then
-    (cd "$room" && thrift -r -gen java tutorial.thrift && mkdir classes && javac -nowarn -d classes -cp "$jars" gen-java/*.java "$here/serve/Hsha.java")
+    (cd "$room" && thrift -r -gen java tutorial.thrift && mkdir classes && javac -nowarn -d classes -cp "$jars" gen-java/*.java "$here/serve/Servers.java")
     kinds+=("hsha 4")
   fi
 fi
@@ -42,7 +42,7 @@ start() {
   case $1 in
     thriftd) "$thriftd" serve @tutorial binary "$2" Calculator=calculator --listen "$port" --accept "$3" --journal /dev/null > /dev/null & ;;
     nonblocking) "$room/nonblocking" "$port" "$2" > /dev/null 2>&1 & ;;
-    hsha) java -cp "$room/classes:$jars" Hsha "$port" "$2" > /dev/null 2>&1 & ;;
+    hsha) java -cp "$room/classes:$jars" Servers hsha "$port" "$2" > /dev/null 2>&1 & ;;
   esac
   server=$!
   for _ in $(seq 100); do

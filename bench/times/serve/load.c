@@ -1,6 +1,6 @@
 /* Loads a Thrift server on the loopback address with calls of the tutorial's `add` (framed, strict binary): load PORT CONNECTIONS DEPTH SECONDS [PID [POINTS]]
  *
- * With POINTS it calls `same` of the service Points (bench/times/mixes.py), whose argument is a list of so many points, and which a mirror answers. It opens CONNECTIONS
+ * Where an `x` stands in front of SECONDS, they are that many calls, and not seconds. With POINTS it calls `same` of the service Points (bench/times/mixes.py), whose argument is a list of so many points, and which a mirror answers. It opens CONNECTIONS
  * connections, keeps DEPTH calls under way on each, and looks at each byte of each reply. It prints one line: calls a second, and with PID the server's processor time
  * for each call in microseconds, and the latency at the half and the 99th of a hundred in microseconds. With SECONDS 0 it opens the connections, lets them be idle
  * for two seconds, and prints the server's memory before and then, in kilobytes, and the milliseconds of a processor that it took meanwhile. It ends with status
@@ -164,7 +164,8 @@ static struct link *dial(uint16_t port, uint32_t depth) {
 int main(int count, char **words) {
   if (count < 5) stop("load PORT CONNECTIONS DEPTH SECONDS [PID [POINTS]]");
   uint16_t port = (uint16_t)atoi(words[1]);
-  uint32_t connections = (uint32_t)atoi(words[2]), depth = (uint32_t)atoi(words[3]), seconds = (uint32_t)atoi(words[4]);
+  int counted = words[4][0] == 'x';
+  uint32_t connections = (uint32_t)atoi(words[2]), depth = (uint32_t)atoi(words[3]), seconds = (uint32_t)atoi(words[4] + counted);
   const char *pid = count > 5 ? words[5] : NULL;
   uint32_t points = count > 6 ? (uint32_t)atoi(words[6]) : 0;
   if (connections > MOST || depth > MOST || points > 1000000) stop("too many");
@@ -185,7 +186,8 @@ int main(int count, char **words) {
     printf("%ld %ld %.0f\n", before, pid ? memory(pid) : 0, pid ? (run_time(pid) - ran) / 1e3 : 0.0);
     return 0;
   }
-  uint64_t start = now(), end = start + (uint64_t)seconds * 1000000000u, calls = 0, owed = 0;
+  uint64_t start = now(), end = counted ? UINT64_MAX : start + (uint64_t)seconds * 1000000000u, calls = 0, owed = 0;
+  uint64_t most = counted ? seconds : UINT64_MAX;
   for (uint32_t k = 0; k < connections; k++) ask(links[k], depth, depth), owed += depth;
   while (owed) {
     struct epoll_event events[256];
@@ -196,6 +198,7 @@ int main(int count, char **words) {
       struct link *l = links[events[k].data.u32];
       uint32_t came = take(l, depth);
       calls += came, owed -= came;
+      if (most < calls + owed + came) came = most < calls + owed ? 0 : (uint32_t)(most - calls - owed);
       if (goes_on && came) ask(l, came, depth), owed += came;
     }
   }
