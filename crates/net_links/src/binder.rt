@@ -1,6 +1,6 @@
 //! Makes links and pipes over sockets, and takes them back.
 
-ghost use Rattle.std.specs.Prelude.{◌≡◌};
+ghost use Rattle.std.specs.Prelude.{◌≡◌, false};
 
 use crate::net_links::NetLinks;
 use crate::pipe::NetPipe;
@@ -47,6 +47,13 @@ impl<'a, N: Net> NetBinder<'a, N> {
     {
         self.faults
     }
+
+    /// Whether it tells of the links that came back: over sockets it doesn't.
+    pub fn tells(&self) -> bool
+        ensures { result ≡ false }
+    {
+        false
+    }
 }
 
 impl<'a, N: Net> Binder for NetBinder<'a, N> {
@@ -63,10 +70,6 @@ impl<'a, N: Net> Binder for NetBinder<'a, N> {
     ghost faults = { λ b. b.faults };
 
     ghost handed = { λ b. b.handed };
-
-    fn tells(&self) -> bool {
-        false
-    }
 
     fn listen(&mut self, alloc: Global, port: u16, accept: u32) -> Result<NetLinks, BindFail> {
         match NetLinks::new(self.net, alloc, port, accept) {

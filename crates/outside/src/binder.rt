@@ -1,6 +1,6 @@
 //! The trait of what makes links and pipes.
 
-ghost use Rattle.std.specs.Prelude.{◌≡◌, ℕ, List, Option, IfOk, IsSome, is_some};
+ghost use Rattle.std.specs.Prelude.{◌≡◌, ℕ, List, Option, IfOk, IsSome};
 ghost use Rattle.streams.specs.Cause.{next_if_faulty};
 ghost use Rattle.outside.specs.Binding.{PastLinks, StartListening, HasBindCause, HandedOut, HandsOut, one_more_back, told_past};
 ghost use Rattle.outside.specs.Calling.{PastPipe, StartsCalling, told_called, next_if_either};
@@ -36,10 +36,6 @@ pub trait Binder {
     ghost faults: { Self → ℕ };
     // How many links and pipes it has handed out, and how many of them have come back; this is always told.
     ghost handed: { Self → HandedOut };
-
-    /// Whether it tells of the links that came back.
-    fn tells(&self) -> bool
-        ensures { result ≡ is_some (past self.now) };
 
     /// Links that listen at this port, and open at most `accept` connections. The room that it takes to have them back is taken here.
     fn listen(&mut self, alloc: Global, port: u16, accept: u32) -> Result<Self::L, BindFail>

@@ -159,6 +159,13 @@ impl MemBinder {
         binder
     }
 
+    /// Whether it tells of the links that came back: in memory it does.
+    pub fn tells(&self) -> bool
+        ensures { result ≡ true }
+    {
+        true
+    }
+
     /// Counts a call to listen or to dial, and a fault where it is to fail.
     fn count_call(&mut self) -> bool
         ensures fails { result ≡ fails_next self.old.calls }
@@ -267,12 +274,6 @@ impl Binder for MemBinder {
     ghost faults = { λ b. b.faults };
 
     ghost handed = { λ b. b.handed };
-
-    fn tells(&self) -> bool
-        ensures { result ≡ true }
-    {
-        true
-    }
 
     fn listen(&mut self, alloc: Global, port: u16, accept: u32) -> Result<BoundLinks, BindFail>
         ensures made { IfOk result (λ links. StartListening (Some self.old.past) (record { port = port; accept = accept }) (listening_told links)) }

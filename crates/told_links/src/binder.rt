@@ -1,6 +1,6 @@
 //! A binder over another binder.
 
-ghost use Rattle.std.specs.Prelude.{◌≡◌, []};
+ghost use Rattle.std.specs.Prelude.{◌≡◌, [], true};
 
 use crate::links::ToldLinks;
 use crate::pipe::ToldPipe;
@@ -57,6 +57,13 @@ impl<B: Binder + Drop> ToldBinder<B> {
             called: Appended::new(),
         }
     }
+
+    /// Whether it tells of the links that came back: it does, whatever it stands over.
+    pub fn tells(&self) -> bool
+        ensures { result ≡ true }
+    {
+        true
+    }
 }
 
 impl<B: Binder + Drop> Binder for ToldBinder<B> {
@@ -73,10 +80,6 @@ impl<B: Binder + Drop> Binder for ToldBinder<B> {
     ghost faults = { λ b. B.faults b.inner };
 
     ghost handed = { λ b. B.handed b.inner };
-
-    fn tells(&self) -> bool {
-        true
-    }
 
     fn listen(
         &mut self,
