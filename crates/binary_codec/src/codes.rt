@@ -28,9 +28,9 @@ pub(crate) fn code_of(tag: Tag) -> u8
     }
 }
 
-/// The tag of a code.
+/// The tag of a code, if it has one.
 #[tactic(auto, unfolding(crate::specs::Codes::tag_of_code))]
-fn tag_of_code(code: u8) -> Option<Tag>
+pub fn tag_of_code(code: u8) -> Option<Tag>
     ensures { result ≡ tag_of_code code }
 {
     match code {

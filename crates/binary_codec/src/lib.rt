@@ -24,6 +24,7 @@ mod protocol;
 mod structs;
 mod values;
 
+pub use codes::tag_of_code;
 pub use places::BinaryWire;
 pub use protocol::Binary;
 pub use structs::{read_struct, write_struct};
