@@ -145,6 +145,27 @@ impl<H: Handler, J: Journal> Hall<H, J> {
     }
 }
 
+/// Parts of steps, for who keeps the outcomes of a hall's jobs elsewhere.
+impl<H: Handler, J: Journal> Hall<H, J> {
+    ghost use Rattle.std.specs.Prelude.{true};
+    ghost use Rattle.machine_model.specs.HallState.{has_key, without};
+
+    /// Lets a key go that is taken, with no outcome of it.
+    pub fn free(&mut self, key: Key)
+        requires { has_key key self.old.taken ≡ true }
+        ensures { self.new ≡ record self.old { taken = without key self.old.taken } }
+    {
+        self.queue.free(key)
+    }
+
+    /// Whether it takes no more jobs.
+    pub fn is_closed(&self) -> bool
+        ensures { result ≡ self.now.closed }
+    {
+        self.closed
+    }
+}
+
 impl<H: Handler, J: Journal> Object for Hall<H, J> {
     ghost use Rattle.hall_core.specs.Asked.{StepGives, StepCan, StepMay};
     ghost use Rattle.hall_core.specs.Following.{steps_follow};
