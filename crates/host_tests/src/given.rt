@@ -187,7 +187,7 @@ impl<'a> Given<'a> {
     fn links_of(self, alloc: Global) -> Result<MemBinder, AllocError>
         ensures { IfOk result (λ binder. binder.plan ≡ none_fails) }
     {
-        match read_script(alloc, self.port, 0, false) {
+        match read_script(alloc, self.port, 0, false, true) {
             Ok(script) => Ok(MemBinder::new(script, self.fails_of(alloc, Called::Listen))),
             Err(_) => Err(AllocError),
         }

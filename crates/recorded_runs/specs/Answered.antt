@@ -55,7 +55,7 @@ ReportsScript a script text = ReportsRunOf (IsRunOfScript a) a.line script text
 
 -- the text of an input is read as a script for these workers, with lines of a schedule, or has a first fault
 abbrev pub script_for : Answering → ScriptReading
-script_for a = script_of_text a.workers true
+script_for a = script_of_text a.workers true true
 
 -- The input was a script, read to its end, and this is the report of a run of it.
 abbrev pub IsReportOf : Answering → Streams → List ℕ → Type 0

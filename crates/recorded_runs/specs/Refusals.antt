@@ -4,7 +4,7 @@ use Rattle.text_out.specs.Decimal.{natural_of}
 use Rattle.text_out.specs.Line.{line_of}
 use Rattle.script_text.specs.declared.fault.ScriptFault.{ScriptFault}
 use Rattle.script_text.specs.declared.fault.ScriptKind.{ScriptKind}
-use Rattle.script_text.specs.declared.fault.ScriptKind.TheVariants.{TooLong, BadLine, NoConnection, AfterEnd, NoEnd, TooMany, NoWorker, Schedule, NoMemory}
+use Rattle.script_text.specs.declared.fault.ScriptKind.TheVariants.{TooLong, BadLine, NoConnection, AfterEnd, NoEnd, TooMany, NoWorker, Schedule, Rest, NoMemory}
 
 -- the word of a kind
 abbrev pub script_kind_word : ScriptKind → List ℕ
@@ -16,6 +16,7 @@ script_kind_word NoEnd = codes "NoEnd"
 script_kind_word TooMany = codes "TooMany"
 script_kind_word NoWorker = codes "NoWorker"
 script_kind_word Schedule = codes "Schedule"
+script_kind_word Rest = codes "Rest"
 script_kind_word NoMemory = codes "NoMemory"
 
 -- the line: `thriftd: script`, the number of the script's line, and what is wrong with it

@@ -1,5 +1,5 @@
 -- Runs of a script whose connections were served by a loop.
-use Rattle.std.specs.Prelude.{◌≡◌, ℕ, ◌<◌, false, List, ◌++◌}
+use Rattle.std.specs.Prelude.{◌≡◌, ℕ, ◌<◌, false, true, List, ◌++◌}
 use Rattle.streams.specs.declared.marks.Mark.{Mark}
 use Rattle.host_model.specs.declared.cause.EndCause.{EndCause}
 use Rattle.host_model.specs.declared.cause.EndCause.TheVariants.{Stopped}
@@ -18,7 +18,7 @@ use Rattle.host_loop.specs.Served.{ServerSetting}
 
 -- the text of an input is read as a script for these workers, without lines of a schedule, or has a first fault
 abbrev pub script_to_serve : Answering → ScriptReading
-script_to_serve a = script_of_text a.workers false
+script_to_serve a = script_of_text a.workers false true
 
 -- A run of a script that was served. Its tape, journal and causes meet the headline, at the desk and from the memories that the services had. The script feeds it, so that
 -- its tape has the opening of each connection that the script opens. At no point were more connections open, or more bytes admitted, than may be; and no connection

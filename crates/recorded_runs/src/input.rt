@@ -1,6 +1,6 @@
 //! The program's input, read as a whole, and as a script.
 
-ghost use Rattle.std.specs.Prelude.{◌≡◌, ◌≢◌, ℕ, ◌<◌, ◌≤◌, length, Err, MatchResult, IfOk};
+ghost use Rattle.std.specs.Prelude.{◌≡◌, ◌≢◌, ℕ, ◌<◌, ◌≤◌, true, length, Err, MatchResult, IfOk};
 ghost use Rattle.streams.specs.Cause.{Rose};
 ghost use Rattle.streams.specs.Content.{told_before, IsSpent};
 ghost use Rattle.script_text.specs.Reading.{script_of_text};
@@ -55,15 +55,15 @@ pub fn read_input<S: Source>(
 ) -> Result<Script, ServingFault>
     requires { workers ≤ 8 }
     ensures input { MatchResult result
-        (λ script. IsInputRead (script_of_text workers schedule) (S.left input.old) (S.left input.new) script)
-        (λ fault. EndsReading (script_of_text workers schedule) fault (S.left input.old)) }
+        (λ script. IsInputRead (script_of_text workers schedule true) (S.left input.old) (S.left input.new) script)
+        (λ fault. EndsReading (script_of_text workers schedule true) fault (S.left input.old)) }
     ensures moves { IfOk result (λ script. MovesItsWorkers workers script) }
     ensures fault { result ≡ Err ServingFault.ReadFault → Rose (S.faults input.old) (S.faults input.new) }
     ensures kept { result ≢ Err ServingFault.ReadFault → S.faults input.new ≡ S.faults input.old }
 {
     scripts_are_sound();
     let text = read_whole(alloc, input)?;
-    let script = read_script(alloc, text.as_slice(), workers, schedule)?;
+    let script = read_script(alloc, text.as_slice(), workers, schedule, true)?;
     Ok(script)
 }
 

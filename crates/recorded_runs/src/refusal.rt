@@ -21,6 +21,7 @@ fn kind_word(kind: ScriptKind) -> &'static str
         ScriptKind::TooMany => "TooMany",
         ScriptKind::NoWorker => "NoWorker",
         ScriptKind::Schedule => "Schedule",
+        ScriptKind::Rest => "Rest",
         ScriptKind::NoMemory => "NoMemory",
     }
 }

@@ -3,7 +3,7 @@
 //! that answer bytes which were given. The crate knows no frame, and opens no socket.
 //!
 //! ```rust
-//! let mut links = ScriptLinks::new(alloc, read_script(alloc, b"open\ndata 0 00000001\nend 0\n", 0, false)?)?;
+//! let mut links = ScriptLinks::new(alloc, read_script(alloc, b"open\ndata 0 00000001\nend 0\n", 0, false, true)?)?;
 //! let first = links.next(&rt, Ask { idle: true, room: true, held: false })?;      // Opened(0)
 //!
 //! let mut binder = MemBinder::new(script, fails);

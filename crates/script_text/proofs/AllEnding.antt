@@ -34,16 +34,16 @@ lets_by workers script sound moves = record {
   inputs = λ c within. input_closes script.lines c (sound.ends c within);
 }
 
-pub lets_all_end : (workers : ℕ) (schedule : Bool) (script : ScriptPlan) → IsReadTo workers schedule script → LetsAllEnd workers script
-lets_all_end workers schedule script to = lets_by workers script (sound_by workers schedule script to) (workers_by workers schedule script to)
+pub lets_all_end : (workers : ℕ) (schedule rest : Bool) (script : ScriptPlan) → IsReadTo workers schedule rest script → LetsAllEnd workers script
+lets_all_end workers schedule rest script to = lets_by workers script (sound_by workers schedule rest script to) (workers_by workers schedule rest script to)
 
-pub ends_behind : (workers : ℕ) (schedule : Bool) (script : ScriptPlan) → IsReadTo workers schedule script → EndsBehindPieces script.lines
-ends_behind workers schedule script to =
-    let passes : (above behind : List PlanLine) (line : PlanLine) → script.lines ≡ above ++ line ∷ behind → Pass workers schedule [] (above ++ line ∷ behind) =
-    λ above behind line is. subst (λ lines. Pass workers schedule [] lines) is to.pass in
+pub ends_behind : (workers : ℕ) (schedule rest : Bool) (script : ScriptPlan) → IsReadTo workers schedule rest script → EndsBehindPieces script.lines
+ends_behind workers schedule rest script to =
+    let passes : (above behind : List PlanLine) (line : PlanLine) → script.lines ≡ above ++ line ∷ behind → Pass workers schedule rest [] (above ++ line ∷ behind) =
+    λ above behind line is. subst (λ lines. Pass workers schedule rest [] lines) is to.pass in
     record {
-      ended = λ above behind c is. behind_end workers schedule c above behind (input_end c) (passes above behind (input_end c) is) refl
-          (opened_at workers schedule c above behind (input_end c) (passes above behind (input_end c) is) refl);
-      failed = λ above behind c is. behind_end workers schedule c above behind (input_fault c) (passes above behind (input_fault c) is) refl
-          (opened_at workers schedule c above behind (input_fault c) (passes above behind (input_fault c) is) refl);
+      ended = λ above behind c is. behind_end workers schedule rest c above behind (input_end c) (passes above behind (input_end c) is) refl
+          (opened_at workers schedule rest c above behind (input_end c) (passes above behind (input_end c) is) refl);
+      failed = λ above behind c is. behind_end workers schedule rest c above behind (input_fault c) (passes above behind (input_fault c) is) refl
+          (opened_at workers schedule rest c above behind (input_fault c) (passes above behind (input_fault c) is) refl);
     }

@@ -12,7 +12,7 @@ use Rattle.script_text.specs.Printing.{said_text, said_in}
 use Rattle.script_text.specs.Sound.{IsKeptScript, closes_input, EndsOnce, IsSoundPlan, MovesItsWorkers}
 use Rattle.script_text.proofs.Numbers.{bytes_at}
 use Rattle.script_text.proofs.Written.{IsWritable}
-use Rattle.script_text.proofs.Standing.{over_all, Pass, AreRules, rules_at, over_count, unscheduled, working, IsReadTo, plan_stands}
+use Rattle.script_text.proofs.Standing.{over_all, Pass, AreRules, rules_at, over_count, unscheduled, unrested, working, IsReadTo, plan_stands}
 use Rattle.script_text.proofs.ReadBack.{few_opened}
 
 -- tests that a line without fault doesn't pass
@@ -57,23 +57,23 @@ past_line c line lines quiet none past = record {
   no_piece = ap (λ own. own ++ pieces_on c lines) none ∙ past.no_piece;
 }
 
-past_end : (workers : ℕ) (schedule : Bool) (over : List Bool) (lines : List PlanLine) (c : ℕ) → Pass workers schedule over lines → get_or over c false ≡ true → IsPast c lines
-past_end workers schedule over [] c pass is = record { not_again = refl; no_piece = refl }
-past_end workers schedule over (opening ∷ lines) c pass is =
-    past_line c opening lines refl refl (past_end workers schedule (over ++ false ∷ []) lines c pass.1 (pushed over c ∙ is))
-past_end workers schedule over (piece x bytes ∷ lines) c pass is =
+past_end : (workers : ℕ) (schedule rest : Bool) (over : List Bool) (lines : List PlanLine) (c : ℕ) → Pass workers schedule rest over lines → get_or over c false ≡ true → IsPast c lines
+past_end workers schedule rest over [] c pass is = record { not_again = refl; no_piece = refl }
+past_end workers schedule rest over (opening ∷ lines) c pass is =
+    past_line c opening lines refl refl (past_end workers schedule rest (over ++ false ∷ []) lines c pass.1 (pushed over c ∙ is))
+past_end workers schedule rest over (piece x bytes ∷ lines) c pass is =
     let other = ne_eqb x c (another over x c (input_clear over x pass.0.0).1 is) in
-    past_line c (piece x bytes) lines refl (ap (λ t. cond t (bytes ∷ []) []) other) (past_end workers schedule over lines c pass.1 is)
-past_end workers schedule over (input_end x ∷ lines) c pass is =
+    past_line c (piece x bytes) lines refl (ap (λ t. cond t (bytes ∷ []) []) other) (past_end workers schedule rest over lines c pass.1 is)
+past_end workers schedule rest over (input_end x ∷ lines) c pass is =
     let apart = another over x c (input_clear over x pass.0.0).1 is in
-    past_line c (input_end x) lines (ap (λ t. t || false) (ne_eqb x c apart)) refl (past_end workers schedule (set over x true) lines c pass.1 (set_other over x c apart ∙ is))
-past_end workers schedule over (input_fault x ∷ lines) c pass is =
+    past_line c (input_end x) lines (ap (λ t. t || false) (ne_eqb x c apart)) refl (past_end workers schedule rest (set over x true) lines c pass.1 (set_other over x c apart ∙ is))
+past_end workers schedule rest over (input_fault x ∷ lines) c pass is =
     let apart = another over x c (input_clear over x pass.0.0).1 is in
-    past_line c (input_fault x) lines (ne_eqb x c apart) refl (past_end workers schedule (set over x true) lines c pass.1 (set_other over x c apart ∙ is))
-past_end workers schedule over (resting ∷ lines) c pass is = past_line c resting lines refl refl (past_end workers schedule over lines c pass.1 is)
-past_end workers schedule over (turn_of_conn x ∷ lines) c pass is = past_line c (turn_of_conn x) lines refl refl (past_end workers schedule over lines c pass.1 is)
-past_end workers schedule over (turn_of_worker w ∷ lines) c pass is = past_line c (turn_of_worker w) lines refl refl (past_end workers schedule over lines c pass.1 is)
-past_end workers schedule over (turn_of_outcome ∷ lines) c pass is = past_line c turn_of_outcome lines refl refl (past_end workers schedule over lines c pass.1 is)
+    past_line c (input_fault x) lines (ne_eqb x c apart) refl (past_end workers schedule rest (set over x true) lines c pass.1 (set_other over x c apart ∙ is))
+past_end workers schedule rest over (resting ∷ lines) c pass is = past_line c resting lines refl refl (past_end workers schedule rest over lines c pass.1 is)
+past_end workers schedule rest over (turn_of_conn x ∷ lines) c pass is = past_line c (turn_of_conn x) lines refl refl (past_end workers schedule rest over lines c pass.1 is)
+past_end workers schedule rest over (turn_of_worker w ∷ lines) c pass is = past_line c (turn_of_worker w) lines refl refl (past_end workers schedule rest over lines c pass.1 is)
+past_end workers schedule rest over (turn_of_outcome ∷ lines) c pass is = past_line c turn_of_outcome lines refl refl (past_end workers schedule rest over lines c pass.1 is)
 
 -- the end stands after a line that is none
 later : (c : ℕ) (x : PlanLine) (lines : List PlanLine) → closes_input c x ≡ false → EndsOnce lines c → EndsOnce (x ∷ lines) c
@@ -102,30 +102,30 @@ here c x lines closes past = record {
 }
 
 -- a line that lets an input end: this one's, or another's
-closing : (workers : ℕ) (schedule : Bool) (over : List Bool) (x c : ℕ) (line : PlanLine) (lines : List PlanLine) → x < length over → Pass workers schedule (set over x true) lines
+closing : (workers : ℕ) (schedule rest : Bool) (over : List Bool) (x c : ℕ) (line : PlanLine) (lines : List PlanLine) → x < length over → Pass workers schedule rest (set over x true) lines
     → (x ≡ c → closes_input c line ≡ true) → ((x ≡ c → ⊥) → closes_input c line ≡ false) → ((x ≡ c → ⊥) → EndsOnce lines c) → EndsOnce (line ∷ lines) c
-closing workers schedule over x c line lines opened pass closes quiet behind =
+closing workers schedule rest over x c line lines opened pass closes quiet behind =
     ⊎_elim
-    (λ same. here c line lines (closes same) (past_end workers schedule (set over x true) lines c pass
+    (λ same. here c line lines (closes same) (past_end workers schedule rest (set over x true) lines c pass
     (ap (λ n. get_or (set over x true) n false) (sym same) ∙ get_or-set_same over x true false opened)))
     (λ apart. later c line lines (quiet apart) (behind apart))
     (cases_eq x c)
 
-ends_once : (workers : ℕ) (schedule : Bool) (over : List Bool) (lines : List PlanLine) (c : ℕ) → Pass workers schedule over lines
+ends_once : (workers : ℕ) (schedule rest : Bool) (over : List Bool) (lines : List PlanLine) (c : ℕ) → Pass workers schedule rest over lines
     → get_or over c false ≡ false → get_or (over_all over lines) c false ≡ true → EndsOnce lines c
-ends_once workers schedule over [] c pass before now = absurd (true≢false (sym now ∙ before))
-ends_once workers schedule over (opening ∷ lines) c pass before now = later c opening lines refl (ends_once workers schedule (over ++ false ∷ []) lines c pass.1 (pushed over c ∙ before) now)
-ends_once workers schedule over (piece x bytes ∷ lines) c pass before now = later c (piece x bytes) lines refl (ends_once workers schedule over lines c pass.1 before now)
-ends_once workers schedule over (input_end x ∷ lines) c pass before now =
-    closing workers schedule over x c (input_end x) lines (input_clear over x pass.0.0).0 pass.1 (λ same. ap (λ t. t || false) (eq-eqb x c same)) (λ apart. ap (λ t. t || false) (ne_eqb x c apart))
-    (λ apart. ends_once workers schedule (set over x true) lines c pass.1 (set_other over x c apart ∙ before) now)
-ends_once workers schedule over (input_fault x ∷ lines) c pass before now =
-    closing workers schedule over x c (input_fault x) lines (input_clear over x pass.0.0).0 pass.1 (eq-eqb x c) (ne_eqb x c)
-    (λ apart. ends_once workers schedule (set over x true) lines c pass.1 (set_other over x c apart ∙ before) now)
-ends_once workers schedule over (resting ∷ lines) c pass before now = later c resting lines refl (ends_once workers schedule over lines c pass.1 before now)
-ends_once workers schedule over (turn_of_conn x ∷ lines) c pass before now = later c (turn_of_conn x) lines refl (ends_once workers schedule over lines c pass.1 before now)
-ends_once workers schedule over (turn_of_worker w ∷ lines) c pass before now = later c (turn_of_worker w) lines refl (ends_once workers schedule over lines c pass.1 before now)
-ends_once workers schedule over (turn_of_outcome ∷ lines) c pass before now = later c turn_of_outcome lines refl (ends_once workers schedule over lines c pass.1 before now)
+ends_once workers schedule rest over [] c pass before now = absurd (true≢false (sym now ∙ before))
+ends_once workers schedule rest over (opening ∷ lines) c pass before now = later c opening lines refl (ends_once workers schedule rest (over ++ false ∷ []) lines c pass.1 (pushed over c ∙ before) now)
+ends_once workers schedule rest over (piece x bytes ∷ lines) c pass before now = later c (piece x bytes) lines refl (ends_once workers schedule rest over lines c pass.1 before now)
+ends_once workers schedule rest over (input_end x ∷ lines) c pass before now =
+    closing workers schedule rest over x c (input_end x) lines (input_clear over x pass.0.0).0 pass.1 (λ same. ap (λ t. t || false) (eq-eqb x c same)) (λ apart. ap (λ t. t || false) (ne_eqb x c apart))
+    (λ apart. ends_once workers schedule rest (set over x true) lines c pass.1 (set_other over x c apart ∙ before) now)
+ends_once workers schedule rest over (input_fault x ∷ lines) c pass before now =
+    closing workers schedule rest over x c (input_fault x) lines (input_clear over x pass.0.0).0 pass.1 (eq-eqb x c) (ne_eqb x c)
+    (λ apart. ends_once workers schedule rest (set over x true) lines c pass.1 (set_other over x c apart ∙ before) now)
+ends_once workers schedule rest over (resting ∷ lines) c pass before now = later c resting lines refl (ends_once workers schedule rest over lines c pass.1 before now)
+ends_once workers schedule rest over (turn_of_conn x ∷ lines) c pass before now = later c (turn_of_conn x) lines refl (ends_once workers schedule rest over lines c pass.1 before now)
+ends_once workers schedule rest over (turn_of_worker w ∷ lines) c pass before now = later c (turn_of_worker w) lines refl (ends_once workers schedule rest over lines c pass.1 before now)
+ends_once workers schedule rest over (turn_of_outcome ∷ lines) c pass before now = later c turn_of_outcome lines refl (ends_once workers schedule rest over lines c pass.1 before now)
 
 -- where all inputs are over, each is
 over_at_by : (x : Bool) (over : List Bool) → (not x || list_any not over) ≡ false → (x ≡ true) × (list_any not over ≡ false)
@@ -143,16 +143,16 @@ over_all_count over [] = omega arith
 over_all_count over (line ∷ lines) = omega (arith, over_all_count (over_behind line over) lines, over_count line over)
 
 -- a line in the middle has no fault
-at_split : (workers : ℕ) (schedule : Bool) (over : List Bool) (above behind : List PlanLine) (line : PlanLine) → Pass workers schedule over (above ++ line ∷ behind)
-    → (fault_of_line workers schedule (over_all over above) (runs line) ≡ None) × IsWritable (runs line)
-at_split workers schedule over [] behind line pass = pass.0
-at_split workers schedule over (x ∷ above) behind line pass = at_split workers schedule (over_behind x over) above behind line pass.1
+at_split : (workers : ℕ) (schedule rest : Bool) (over : List Bool) (above behind : List PlanLine) (line : PlanLine) → Pass workers schedule rest over (above ++ line ∷ behind)
+    → (fault_of_line workers schedule rest (over_all over above) (runs line) ≡ None) × IsWritable (runs line)
+at_split workers schedule rest over [] behind line pass = pass.0
+at_split workers schedule rest over (x ∷ above) behind line pass = at_split workers schedule rest (over_behind x over) above behind line pass.1
 
 -- and what stands behind it passes
-pass_behind : (workers : ℕ) (schedule : Bool) (over : List Bool) (above behind : List PlanLine) (line : PlanLine) → Pass workers schedule over (above ++ line ∷ behind)
-    → Pass workers schedule (over_behind line (over_all over above)) behind
-pass_behind workers schedule over [] behind line pass = pass.1
-pass_behind workers schedule over (x ∷ above) behind line pass = pass_behind workers schedule (over_behind x over) above behind line pass.1
+pass_behind : (workers : ℕ) (schedule rest : Bool) (over : List Bool) (above behind : List PlanLine) (line : PlanLine) → Pass workers schedule rest over (above ++ line ∷ behind)
+    → Pass workers schedule rest (over_behind line (over_all over above)) behind
+pass_behind workers schedule rest over [] behind line pass = pass.1
+pass_behind workers schedule rest over (x ∷ above) behind line pass = pass_behind workers schedule rest (over_behind x over) above behind line pass.1
 
 -- a connection that a line speaks of is opened
 opened_by : (over : List Bool) (of_line : Option ℕ) (c : ℕ) → of_line ≡ Some c → is_unopened (length over) of_line ≡ false → c < length over
@@ -162,23 +162,23 @@ opened_by over (Some x) c is clear =
     omega (arith, same, leb-false (length over) x clear)
 
 -- few connections are opened
-few_step : (workers : ℕ) (schedule : Bool) (over : List Bool) (line : PlanLine) → fault_of_line workers schedule over (runs line) ≡ None → length over ≤ 1024
+few_step : (workers : ℕ) (schedule rest : Bool) (over : List Bool) (line : PlanLine) → fault_of_line workers schedule rest over (runs line) ≡ None → length over ≤ 1024
     → length over + one_if_opens line ≤ 1024
-few_step workers schedule over opening clear few = omega (arith, few_opened (length over) (nat_le 1024 (length over)) refl clear)
-few_step workers schedule over (piece c bytes) clear few = omega (arith, few)
-few_step workers schedule over (input_end c) clear few = omega (arith, few)
-few_step workers schedule over (input_fault c) clear few = omega (arith, few)
-few_step workers schedule over resting clear few = omega (arith, few)
-few_step workers schedule over (turn_of_conn c) clear few = omega (arith, few)
-few_step workers schedule over (turn_of_worker w) clear few = omega (arith, few)
-few_step workers schedule over turn_of_outcome clear few = omega (arith, few)
+few_step workers schedule rest over opening clear few = omega (arith, few_opened (length over) (nat_le 1024 (length over)) refl clear)
+few_step workers schedule rest over (piece c bytes) clear few = omega (arith, few)
+few_step workers schedule rest over (input_end c) clear few = omega (arith, few)
+few_step workers schedule rest over (input_fault c) clear few = omega (arith, few)
+few_step workers schedule rest over resting clear few = omega (arith, few)
+few_step workers schedule rest over (turn_of_conn c) clear few = omega (arith, few)
+few_step workers schedule rest over (turn_of_worker w) clear few = omega (arith, few)
+few_step workers schedule rest over turn_of_outcome clear few = omega (arith, few)
 
-few_lines : (workers : ℕ) (schedule : Bool) (over : List Bool) (lines : List PlanLine) → Pass workers schedule over lines → length over ≤ 1024 → length over + openings lines ≤ 1024
-few_lines workers schedule over [] pass few = omega (arith, few)
-few_lines workers schedule over (line ∷ lines) pass few =
+few_lines : (workers : ℕ) (schedule rest : Bool) (over : List Bool) (lines : List PlanLine) → Pass workers schedule rest over lines → length over ≤ 1024 → length over + openings lines ≤ 1024
+few_lines workers schedule rest over [] pass few = omega (arith, few)
+few_lines workers schedule rest over (line ∷ lines) pass few =
     let size = over_count line over in
-    let step = few_step workers schedule over line pass.0.0 few in
-    omega (arith, size, step, few_lines workers schedule (over_behind line over) lines pass.1 (omega (arith, size, step)))
+    let step = few_step workers schedule rest over line pass.0.0 few in
+    omega (arith, size, step, few_lines workers schedule rest (over_behind line over) lines pass.1 (omega (arith, size, step)))
 
 rule_in : (above behind : List PlanRule) (count : ℕ) → AreRules (above ++ takes_most count ∷ behind) → 0 < count
 rule_in [] behind count are = are.0.0
@@ -193,42 +193,42 @@ worker_by schedule workers w clear = go workers (leb-false (max workers 1) w (wo
     go (suc n) l = omega (arith, l)
 
 -- a connection that a line in the middle speaks of is opened above it
-pub opened_at : (workers : ℕ) (schedule : Bool) (c : ℕ) (above behind : List PlanLine) (line : PlanLine) → Pass workers schedule [] (above ++ line ∷ behind) → conn_of_line line ≡ Some c
+pub opened_at : (workers : ℕ) (schedule rest : Bool) (c : ℕ) (above behind : List PlanLine) (line : PlanLine) → Pass workers schedule rest [] (above ++ line ∷ behind) → conn_of_line line ≡ Some c
     → c < length (over_all [] above)
-opened_at workers schedule c above behind line pass of_line =
+opened_at workers schedule rest c above behind line pass of_line =
     let clear : is_unopened (length (over_all [] above)) (conn_of_line line) ≡ false =
-    (connected (is_unopened (length (over_all [] above)) (conn_of_line line)) _ (unscheduled _ _ (at_split workers schedule [] above behind line pass).0)).0 in
+    (connected (is_unopened (length (over_all [] above)) (conn_of_line line)) _ (unrested _ _ (unscheduled _ _ (at_split workers schedule rest [] above behind line pass).0))).0 in
     opened_by (over_all [] above) (conn_of_line line) c of_line clear
 
 -- behind a line that lets the input of a connection end there is no piece of it
-pub behind_end : (workers : ℕ) (schedule : Bool) (c : ℕ) (above behind : List PlanLine) (line : PlanLine) → Pass workers schedule [] (above ++ line ∷ behind) → over_behind line (over_all [] above) ≡ set (over_all [] above) c true
+pub behind_end : (workers : ℕ) (schedule rest : Bool) (c : ℕ) (above behind : List PlanLine) (line : PlanLine) → Pass workers schedule rest [] (above ++ line ∷ behind) → over_behind line (over_all [] above) ≡ set (over_all [] above) c true
     → c < length (over_all [] above) → pieces_on c behind ≡ []
-behind_end workers schedule c above behind line pass is opened =
+behind_end workers schedule rest c above behind line pass is opened =
     let over : List Bool = over_all [] above in
-    let later : Pass workers schedule (set over c true) behind = subst (λ now. Pass workers schedule now behind) is (pass_behind workers schedule [] above behind line pass) in
-    (past_end workers schedule (set over c true) behind c later (get_or-set_same over c true false opened)).no_piece
+    let later : Pass workers schedule rest (set over c true) behind = subst (λ now. Pass workers schedule rest now behind) is (pass_behind workers schedule rest [] above behind line pass) in
+    (past_end workers schedule rest (set over c true) behind c later (get_or-set_same over c true false opened)).no_piece
 
 -- what every script is sound by, by what it was read to
-pub sound_by : (workers : ℕ) (schedule : Bool) (script : ScriptPlan) → IsReadTo workers schedule script → IsSoundPlan script
-sound_by workers schedule script to =
+pub sound_by : (workers : ℕ) (schedule rest : Bool) (script : ScriptPlan) → IsReadTo workers schedule rest script → IsSoundPlan script
+sound_by workers schedule rest script to =
     let passes : (above behind : List PlanLine) (line : PlanLine) → script.lines ≡ above ++ line ∷ behind
-    → (fault_of_line workers schedule (over_all [] above) (runs line) ≡ None) × IsWritable (runs line) =
-    λ above behind line is. at_split workers schedule [] above behind line (subst (λ lines. Pass workers schedule [] lines) is to.pass) in
+    → (fault_of_line workers schedule rest (over_all [] above) (runs line) ≡ None) × IsWritable (runs line) =
+    λ above behind line is. at_split workers schedule rest [] above behind line (subst (λ lines. Pass workers schedule rest [] lines) is to.pass) in
     record {
       opened = λ above behind line c is of_line.
-          omega (arith, opened_at workers schedule c above behind line (subst (λ lines. Pass workers schedule [] lines) is to.pass) of_line, over_all_count [] above);
-      few = omega (arith, few_lines workers schedule [] script.lines to.pass (omega arith));
+          omega (arith, opened_at workers schedule rest c above behind line (subst (λ lines. Pass workers schedule rest [] lines) is to.pass) of_line, over_all_count [] above);
+      few = omega (arith, few_lines workers schedule rest [] script.lines to.pass (omega arith));
       with_rules = to.count;
-      ends = λ c within. ends_once workers schedule [] script.lines c to.pass refl
+      ends = λ c within. ends_once workers schedule rest [] script.lines c to.pass refl
           (ap (λ over. get_or over c false) to.over_is ∙ over_at to.over c to.ended (omega (arith, within, to.opened)));
       pieces = λ above behind c bytes is. ((passes above behind (piece c bytes) is).1.1.0, bytes_at bytes (passes above behind (piece c bytes) is).1.1.1);
       writes = λ c count above behind is. rule_in above behind count (subst AreRules is (rules_at script.rules c to.rules));
     }
 
 pub sound : (script : ScriptPlan) → IsKeptScript script → IsSoundPlan script
-sound script back = sound_by 8 true script (plan_stands 8 true (map said_text (said_in script)) script back)
+sound script back = sound_by 8 true true script (plan_stands 8 true true (map said_text (said_in script)) script back)
 
 -- and whom its lines move
-pub workers_by : (workers : ℕ) (schedule : Bool) (script : ScriptPlan) → IsReadTo workers schedule script → MovesItsWorkers workers script
-workers_by workers schedule script to above behind w is =
-    worker_by schedule workers w (at_split workers schedule [] above behind (turn_of_worker w) (subst (λ lines. Pass workers schedule [] lines) is to.pass)).0
+pub workers_by : (workers : ℕ) (schedule rest : Bool) (script : ScriptPlan) → IsReadTo workers schedule rest script → MovesItsWorkers workers script
+workers_by workers schedule rest script to above behind w is =
+    worker_by schedule workers w (at_split workers schedule rest [] above behind (turn_of_worker w) (subst (λ lines. Pass workers schedule rest [] lines) is to.pass)).0

@@ -1,10 +1,10 @@
 -- The reading of a script, line by line: what was read so far, and the first fault.
 use Rattle.std.specs.Prelude.{ℕ, ◌+◌, max, nat_lt, nat_le, Bool, true, false, not, ◌&&◌, List, [], ◌∷◌, ◌++◌, length, slice_index_or, slice_set, Option, None, Some, Result, Ok, Err, if◌then◌else◌}
 use Rattle.std.specs.List.{list_any}
-use Rattle.script_model.specs.ScriptLines.{PlanLine, opening, piece, input_end, input_fault, turn_of_conn, turn_of_worker, turn_of_outcome, PlanRule, ScriptPlan}
+use Rattle.script_model.specs.ScriptLines.{PlanLine, opening, piece, input_end, input_fault, resting, turn_of_conn, turn_of_worker, turn_of_outcome, PlanRule, ScriptPlan}
 use Rattle.script_text.specs.declared.fault.ScriptFault.{ScriptFault}
 use Rattle.script_text.specs.declared.fault.ScriptKind.{ScriptKind}
-use Rattle.script_text.specs.declared.fault.ScriptKind.TheVariants.{TooLong, BadLine, NoConnection, AfterEnd, NoEnd, TooMany, NoWorker, Schedule}
+use Rattle.script_text.specs.declared.fault.ScriptKind.TheVariants.{TooLong, BadLine, NoConnection, AfterEnd, NoEnd, TooMany, NoWorker, Schedule, Rest}
 use Rattle.script_text.specs.TextLines.{longest_script, text_lines, is_passed_over}
 use Rattle.script_text.specs.LineForms.{SaidLine, runs, rules_so, said_of}
 pub use Rattle.limits.specs.Limits.{most_connections}
@@ -48,6 +48,16 @@ abbrev pub is_turn_said : SaidLine → Bool
 is_turn_said (runs line) = is_turn line
 is_turn_said (rules_so c rule) = false
 
+-- a line at which nothing goes on until all that is under way is done
+abbrev pub is_resting : PlanLine → Bool
+is_resting resting = true
+is_resting _ = false
+
+-- what is said is one
+abbrev pub is_resting_said : SaidLine → Bool
+is_resting_said (runs line) = is_resting line
+is_resting_said (rules_so c rule) = false
+
 -- it speaks of a connection that isn't opened above, where so many are
 abbrev pub is_unopened : ℕ → Option ℕ → Bool
 is_unopened opened None = false
@@ -76,9 +86,10 @@ is_one_too_many opened (runs opening) = nat_le most_connections opened
 is_one_too_many opened _ = false
 
 -- the first fault of a line behind those above it
-abbrev pub fault_of_line : ℕ → Bool → List Bool → SaidLine → Option ScriptKind
-fault_of_line workers schedule over said =
+abbrev pub fault_of_line : ℕ → Bool → Bool → List Bool → SaidLine → Option ScriptKind
+fault_of_line workers schedule rest over said =
     if is_turn_said said && not schedule then Some Schedule
+    else if is_resting_said said && not rest then Some Rest
     else if is_unopened (length over) (conn_said said) then Some NoConnection
     else if is_no_worker workers said then Some NoWorker
     else if is_behind_end over (input_of said) then Some AfterEnd
@@ -116,13 +127,13 @@ unless_fault so None = Ok so
 unless_fault so (Some kind) = Err kind
 
 -- what was read, and what a line says
-abbrev pub read_said : ℕ → Bool → ScriptSoFar → Option SaidLine → Result ScriptSoFar ScriptKind
-read_said workers schedule so None = Err BadLine
-read_said workers schedule so (Some said) = unless_fault (with_said so said) (fault_of_line workers schedule so.over said)
+abbrev pub read_said : ℕ → Bool → Bool → ScriptSoFar → Option SaidLine → Result ScriptSoFar ScriptKind
+read_said workers schedule rest so None = Err BadLine
+read_said workers schedule rest so (Some said) = unless_fault (with_said so said) (fault_of_line workers schedule rest so.over said)
 
 -- what was read, and a line
-abbrev pub read_line : ℕ → Bool → ScriptSoFar → List ℕ → Result ScriptSoFar ScriptKind
-read_line workers schedule so line = if is_passed_over line then Ok so else read_said workers schedule so (said_of line)
+abbrev pub read_line : ℕ → Bool → Bool → ScriptSoFar → List ℕ → Result ScriptSoFar ScriptKind
+read_line workers schedule rest so line = if is_passed_over line then Ok so else read_said workers schedule rest so (said_of line)
 
 -- a fault of some kind on the line with this number
 abbrev pub fault_at : ℕ → ScriptKind → ScriptFault
@@ -138,10 +149,10 @@ reads_on number further (Ok so) = further so
 reads_on number further (Err kind) = Err (fault_at number kind)
 
 -- the reading of these lines, of which the first has this number
-abbrev pub read_from : ℕ → Bool → ℕ → ScriptSoFar → List (List ℕ) → Result ScriptSoFar ScriptFault
-read_from workers schedule number so [] = at_end number so
-read_from workers schedule number so (line ∷ lines) =
-    reads_on number (λ next. read_from workers schedule (number + 1) next lines) (read_line workers schedule so line)
+abbrev pub read_from : ℕ → Bool → Bool → ℕ → ScriptSoFar → List (List ℕ) → Result ScriptSoFar ScriptFault
+read_from workers schedule rest number so [] = at_end number so
+read_from workers schedule rest number so (line ∷ lines) =
+    reads_on number (λ next. read_from workers schedule rest (number + 1) next lines) (read_line workers schedule rest so line)
 
 -- the script of what was read
 abbrev pub plan_read : Result ScriptSoFar ScriptFault → Result ScriptPlan ScriptFault
@@ -149,10 +160,10 @@ plan_read (Ok so) = Ok (plan_so_far so)
 plan_read (Err fault) = Err fault
 
 -- the script of a text's lines, or the first fault
-abbrev pub plan_of_lines : ℕ → Bool → List (List ℕ) → Result ScriptPlan ScriptFault
-plan_of_lines workers schedule lines = plan_read (read_from workers schedule 1 nothing_read lines)
+abbrev pub plan_of_lines : ℕ → Bool → Bool → List (List ℕ) → Result ScriptPlan ScriptFault
+plan_of_lines workers schedule rest lines = plan_read (read_from workers schedule rest 1 nothing_read lines)
 
--- the script of a text, or its first fault; for so many workers, with lines of a schedule or without
-abbrev pub script_of_text : ℕ → Bool → List ℕ → Result ScriptPlan ScriptFault
-script_of_text workers schedule text =
-    if nat_lt longest_script (length text) then Err (fault_at 0 TooLong) else plan_of_lines workers schedule (text_lines text)
+-- the script of a text, or its first fault; for so many workers, with lines of a schedule or without, and with `rest` lines or without
+abbrev pub script_of_text : ℕ → Bool → Bool → List ℕ → Result ScriptPlan ScriptFault
+script_of_text workers schedule rest text =
+    if nat_lt longest_script (length text) then Err (fault_at 0 TooLong) else plan_of_lines workers schedule rest (text_lines text)

@@ -2,24 +2,28 @@
 use Rattle.std.specs.Prelude.{◌≡◌, ℕ, ◌<◌, ◌≤◌, Bool, true, false, ◌||◌, List, [], ◌∷◌, ◌++◌, map, length, get_or, Some, Ok}
 use Rattle.script_model.specs.ScriptLines.{PlanLine, piece, turn_of_worker, PlanRule, takes_most, ScriptPlan, openings, pieces_on, ends_input, fails_input, some_line, rules_of}
 use Rattle.script_model.specs.Rehearsing.{workers_among}
-use Rattle.script_text.specs.Reading.{most_connections, conn_of_line, is_turn, plan_of_lines}
+use Rattle.script_text.specs.Reading.{most_connections, conn_of_line, is_turn, is_resting, plan_of_lines}
 use Rattle.script_text.specs.Printing.{said_text, said_in}
 
 -- the lines of a script's print are read as the script
-abbrev pub IsReadBack : ℕ → Bool → ScriptPlan → Type 0
-IsReadBack workers schedule script = plan_of_lines workers schedule (map said_text (said_in script)) ≡ Ok script
+abbrev pub IsReadBack : ℕ → Bool → Bool → ScriptPlan → Type 0
+IsReadBack workers schedule rest script = plan_of_lines workers schedule rest (map said_text (said_in script)) ≡ Ok script
 
 -- the most workers that a script may speak of
 abbrev pub most_workers : ℕ
 most_workers = 8
 
--- the print of a script has no fault, whatever its length, for 8 workers and with lines of a schedule
+-- the print of a script has no fault, whatever its length, for 8 workers, with lines of a schedule and with `rest` lines
 abbrev pub IsKeptScript : ScriptPlan → Type 0
-IsKeptScript script = IsReadBack most_workers true script
+IsKeptScript script = IsReadBack most_workers true true script
 
 -- no line is one of a schedule
 abbrev pub IsUnscheduled : ScriptPlan → Type 0
 IsUnscheduled script = some_line is_turn script.lines ≡ false
+
+-- no line is a `rest` line
+abbrev pub NeverRests : ScriptPlan → Type 0
+NeverRests script = some_line is_resting script.lines ≡ false
 
 -- a line lets the input of connection c end or fail
 abbrev pub closes_input : ℕ → PlanLine → Bool

@@ -2,7 +2,7 @@
 
 ghost use Rattle.std.specs.Prelude.{◌≡◌, ◌++◌, ◌∷◌, [], ◌<◌, not, map, length, nat_le, max, slice_index_or, slice_set, false, true, Some, None, OnOk, IfOk, if◌then◌else◌};
 ghost use Rattle.std.specs.List.{list_any};
-ghost use Rattle.script_text.specs.declared.fault.ScriptKind.TheVariants.{NoConnection, AfterEnd, TooMany, NoWorker, Schedule};
+ghost use Rattle.script_text.specs.declared.fault.ScriptKind.TheVariants.{NoConnection, AfterEnd, TooMany, NoWorker, Schedule, Rest};
 ghost use Rattle.script_text.specs.LineForms.{runs, rules_so};
 ghost use Rattle.script_text.specs.Reading.{most_connections, fault_of_line, over_behind, rules_opened, is_opening, with_rule, with_said, nothing_read, read_line};
 ghost use Rattle.script_text.specs.Plans.{plain_line, plain_rule, plain_rules};
@@ -44,8 +44,9 @@ impl Draft {
         line: &[u8],
         workers: u32,
         schedule: bool,
+        rest: bool,
     ) -> Result<Result<(), ScriptKind>, AllocError>
-        ensures { IfOk result (λ answer. answers_read answer (so_far self.new) ≡ read_line workers schedule (so_far self.old) line.now) }
+        ensures { IfOk result (λ answer. answers_read answer (so_far self.new) ≡ read_line workers schedule rest (so_far self.old) line.now) }
     {
         if says_nothing(line) {
             return Ok(Ok(()));
@@ -53,7 +54,7 @@ impl Draft {
         let Some(said) = read_said(alloc, line)? else {
             return Ok(Err(ScriptKind::BadLine));
         };
-        if let Some(kind) = fault_of_said(self.over.as_slice(), &said, workers, schedule) {
+        if let Some(kind) = fault_of_said(self.over.as_slice(), &said, workers, schedule, rest) {
             return Ok(Err(kind));
         }
         self.add(alloc, said)?;
@@ -157,11 +158,17 @@ pub(crate) fn has_open_input(over: &[bool]) -> bool
 }
 
 /// The first fault of what a line says.
-fn fault_of_said(over: &[bool], said: &LineRead, workers: u32, schedule: bool) -> Option<ScriptKind>
-    ensures { result ≡ fault_of_line workers schedule over.now (plain_said said.now) }
+fn fault_of_said(
+    over: &[bool],
+    said: &LineRead,
+    workers: u32,
+    schedule: bool,
+    rest: bool,
+) -> Option<ScriptKind>
+    ensures { result ≡ fault_of_line workers schedule rest over.now (plain_said said.now) }
 {
     match said {
-        LineRead::Line(line) => fault_of_line(over, line, workers, schedule),
+        LineRead::Line(line) => fault_of_line(over, line, workers, schedule, rest),
         LineRead::Rule(c, _) => unopened(over, *c),
     }
 }
@@ -172,15 +179,16 @@ fn fault_of_line(
     line: &ScriptLine,
     workers: u32,
     schedule: bool,
+    rest: bool,
 ) -> Option<ScriptKind>
-    ensures { result ≡ fault_of_line workers schedule over.now (runs (plain_line line.now)) }
+    ensures { result ≡ fault_of_line workers schedule rest over.now (runs (plain_line line.now)) }
 {
     match line {
         ScriptLine::Opens => one_too_many(over),
         ScriptLine::Piece(c, _) => behind_end(over, *c),
         ScriptLine::Ends(c) => behind_end(over, *c),
         ScriptLine::FailsRead(c) => behind_end(over, *c),
-        ScriptLine::Rest => None,
+        ScriptLine::Rest => at_rest(rest),
         ScriptLine::Loop(c) => on_schedule(schedule, unopened(over, *c)),
         ScriptLine::Work(w) => on_schedule(schedule, no_worker(workers, *w)),
         ScriptLine::Collect => on_schedule(schedule, None),
@@ -195,6 +203,16 @@ fn on_schedule(schedule: bool, fault: Option<ScriptKind>) -> Option<ScriptKind>
         return Some(ScriptKind::Schedule);
     }
     fault
+}
+
+/// The fault of a `rest` line, where none may be.
+fn at_rest(rest: bool) -> Option<ScriptKind>
+    ensures { result ≡ (if not rest then Some Rest else None) }
+{
+    if !rest {
+        return Some(ScriptKind::Rest);
+    }
+    None
 }
 
 /// The fault of a connection that isn't opened.

@@ -33,6 +33,9 @@ pub enum ScriptKind {
     /// A line of a schedule where none may be.
     #[error("Schedule")]
     Schedule,
+    /// A `rest` line where none may be.
+    #[error("Rest")]
+    Rest,
     /// The script found no room in memory.
     #[error("NoMemory")]
     NoMemory,

@@ -5,7 +5,7 @@
 //! connections end, with as many workers as it was read for (`laws`).
 //!
 //! ```rust
-//! let script = read_script(alloc, b"open\ndata 0 00000001\nwrite 0 5\nend 0\n", 0, true)?;
+//! let script = read_script(alloc, b"open\ndata 0 00000001\nwrite 0 5\nend 0\n", 0, true, true)?;
 //! for line in script.lines().as_slice() { .. }
 //! let text = print_script(alloc, &script)?;     // open, write 0 5, data 0 00000001, end 0
 //! ```

@@ -15,17 +15,19 @@ use crate::words::cut_line;
 use limits::LONGEST_SCRIPT;
 use std::alloc::{AllocError, Global};
 
-/// The script that a text is, for so many workers and with lines of a schedule or without; or the text's first fault.
+/// The script that a text is, for so many workers, with lines of a schedule or without, and with `rest` lines or without;
+/// or the text's first fault.
 pub fn read_script(
     alloc: Global,
     text: &[u8],
     workers: u32,
     schedule: bool,
+    rest: bool,
 ) -> Result<Script, ScriptFault>
     requires { workers ≤ most_workers }
     ensures { MatchResult result
-        (λ script. script_of_text workers schedule text.now ≡ Ok script)
-        (λ fault. fault.kind ≢ NoMemory → script_of_text workers schedule text.now ≡ Err fault) }
+        (λ script. script_of_text workers schedule rest text.now ≡ Ok script)
+        (λ fault. fault.kind ≢ NoMemory → script_of_text workers schedule rest text.now ≡ Err fault) }
 {
     if text.len() > LONGEST_SCRIPT {
         return Err(ScriptFault {
@@ -33,7 +35,7 @@ pub fn read_script(
             kind: ScriptKind::TooLong,
         });
     }
-    match read_lines(alloc, text, workers, schedule)? {
+    match read_lines(alloc, text, workers, schedule, rest)? {
         Ok(draft) => Ok(kept(draft)),
         Err(fault) => Err(fault),
     }
@@ -53,21 +55,22 @@ fn read_lines(
     text: &[u8],
     workers: u32,
     schedule: bool,
+    rest: bool,
 ) -> Result<Result<Draft, ScriptFault>, AllocError>
     requires { length text.now ≤ longest_script }
-    ensures { IfOk result (λ answer. read_so_far_as answer ≡ read_from workers schedule 1 nothing_read (text_lines text.now)) }
+    ensures { IfOk result (λ answer. read_so_far_as answer ≡ read_from workers schedule rest 1 nothing_read (text_lines text.now)) }
 {
     let mut draft = Draft::new(alloc);
     let mut number: u32 = 1;
     let mut left = text;
     'lines: while !left.is_empty() {
-        let (line, rest) = cut_line(left);
-        let answer = draft.read_line(alloc, line, workers, schedule)?;
+        let (line, behind) = cut_line(left);
+        let answer = draft.read_line(alloc, line, workers, schedule, rest)?;
         if let Err(kind) = answer {
             return Ok(Err(ScriptFault { line: number, kind }));
         }
         number += 1;
-        left = rest;
+        left = behind;
     }
     Ok(ended(draft, number))
 }

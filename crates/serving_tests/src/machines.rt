@@ -62,7 +62,7 @@ fn script_of(alloc: Global, text: &[u8], workers: u32) -> Option<Script>
     ensures { IfSome result (λ script. MovesItsWorkers workers script) }
 {
     scripts_are_sound();
-    match read_script(alloc, text, workers, true) {
+    match read_script(alloc, text, workers, true, true) {
         Ok(script) => Some(script),
         Err(_) => None,
     }

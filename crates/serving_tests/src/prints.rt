@@ -1,6 +1,6 @@
-//! Scripts, printed.
+//! Scripts, printed, and texts that are none where no `rest` line may be.
 
-use script_text::{Script, print_script, read_script};
+use script_text::{Script, ScriptKind, print_script, read_script};
 use std::alloc::{AllocError, Global};
 use std::test::Fail;
 use workload::generate;
@@ -28,6 +28,14 @@ const PRINTS: [(&[u8], &[u8]); 6] = [
     ),
 ];
 
+/// Texts that are no script where no `rest` line may be, with the line of the first fault and its kind.
+const REFUSED: [(&[u8], u32, ScriptKind); 4] = [
+    (b"# rest\nopen\n\nrest\nrest\nend 0\n", 4, ScriptKind::Rest),
+    (b"rest\nopen\n", 1, ScriptKind::Rest),
+    (b"rest \nopen\nend 0\n", 1, ScriptKind::BadLine),
+    (b"open\nend 1\nrest\nend 0\n", 2, ScriptKind::NoConnection),
+];
+
 /// Whether a script has this print.
 fn has_print(alloc: Global, script: &Script, print: &[u8]) -> Result<bool, AllocError> {
     let printed = print_script(alloc, script)?;
@@ -36,7 +44,7 @@ fn has_print(alloc: Global, script: &Script, print: &[u8]) -> Result<bool, Alloc
 
 /// Whether a text is a script with this print.
 fn prints(alloc: Global, text: &[u8], print: &[u8]) -> Result<bool, AllocError> {
-    match read_script(alloc, text, 2, true) {
+    match read_script(alloc, text, 2, true, true) {
         Ok(script) => has_print(alloc, &script, print),
         Err(_) => Ok(false),
     }
@@ -51,6 +59,22 @@ fn prints_again(alloc: Global, text: &[u8], print: &[u8]) -> Result<bool, AllocE
 fn scripts_are_printed(rt: HostRuntime) -> Result<(), Fail> {
     for (text, print) in &PRINTS {
         assert!(rt; prints_again(rt.alloc(), text, print)?, "{text:?}");
+    }
+    Ok(())
+}
+
+/// Whether a text that may have no `rest` line has its first fault there, of this kind.
+fn is_refused(alloc: Global, text: &[u8], line: u32, kind: ScriptKind) -> bool {
+    match read_script(alloc, text, 2, true, false) {
+        Ok(_) => false,
+        Err(fault) => fault.line == line && fault.kind == kind,
+    }
+}
+
+#[test]
+fn rest_lines_are_refused(rt: HostRuntime) -> Result<(), Fail> {
+    for (text, line, kind) in &REFUSED {
+        assert!(rt; is_refused(rt.alloc(), text, *line, *kind), "{text:?}");
     }
     Ok(())
 }

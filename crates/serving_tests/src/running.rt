@@ -34,7 +34,7 @@ fn script_of(alloc: Global, text: &[u8]) -> Option<Script>
     ensures { IfSome result (λ script. MovesItsWorkers 0 script) }
 {
     scripts_are_sound();
-    match read_script(alloc, text, 0, true) {
+    match read_script(alloc, text, 0, true, true) {
         Ok(script) => Some(script),
         Err(_) => None,
     }

@@ -234,10 +234,10 @@ module _ (one : OneVerdict) (good : BoundIsGood) (never : BreakIsNone) where
       no_fault before after (Some (compares old new)) status shows none (compat_goes before.files.held old new (streams_between before after) status asked h)
   ends_well (Some (rehearses says)) handlers status before after h called shows asked none =
       no_fault before after (Some (rehearses says)) status shows none
-      (run_goes rehearsing (asked_run says before.files.held handlers) (script_of_text says.workers true) (λ a. refl) (streams_between before after) status asked.0 asked.1 h)
+      (run_goes rehearsing (asked_run says before.files.held handlers) (script_of_text says.workers true true) (λ a. refl) (streams_between before after) status asked.0 asked.1 h)
   ends_well (Some (records says)) handlers status before after h called shows asked none =
       no_fault before after (Some (records says)) status shows none
-      (run_goes recording (asked_run says before.files.held handlers) (script_of_text says.workers false) (λ a. refl) (streams_between before after) status asked.0 asked.1 h)
+      (run_goes recording (asked_run says before.files.held handlers) (script_of_text says.workers false true) (λ a. refl) (streams_between before after) status asked.0 asked.1 h)
   ends_well (Some (serves says port accept journal)) handlers status before after h called shows asked none =
       no_fault before after (Some (serves says port accept journal)) status shows none
       (serve_goes (record { run = asked_run says before.files.held handlers; place = asked_place port accept journal }) (change_between before after) status asked h.1)

@@ -55,9 +55,9 @@ abbrev pub IsWellAsked : Option PlainCommand → List ServiceState → Surroundi
 IsWellAsked (Some (checks idl)) handlers before = IsGoodIdl before.files.held idl
 IsWellAsked (Some (compares old new)) handlers before = IsGoodChange before.files.held old new
 IsWellAsked (Some (rehearses says)) handlers before =
-    IsRunReady (asked_run says before.files.held handlers) × IsGoodInput (script_of_text says.workers true) before.input.left
+    IsRunReady (asked_run says before.files.held handlers) × IsGoodInput (script_of_text says.workers true true) before.input.left
 IsWellAsked (Some (records says)) handlers before =
-    IsRunReady (asked_run says before.files.held handlers) × IsGoodInput (script_of_text says.workers false) before.input.left
+    IsRunReady (asked_run says before.files.held handlers) × IsGoodInput (script_of_text says.workers false true) before.input.left
 IsWellAsked (Some (serves says port accept journal)) handlers before = IsRunReady (asked_run says before.files.held handlers)
 IsWellAsked (Some (runs seed size workers)) handlers before = IsRunReady (asked_workload workers before.files.held handlers)
 IsWellAsked (Some (calls asking)) handlers before = IsGoodCall before.files.held asking

@@ -28,19 +28,19 @@ read_behind so [] = so
 read_behind so (line ∷ lines) = read_behind (with_said so (runs line)) lines
 
 -- one line
-line_on : (so : ScriptSoFar) (line : PlanLine) → IsWritable (runs line) → fault_of_line 0 false so.over (runs line) ≡ None
-    → read_line 0 false so (said_text (runs line)) ≡ Ok (with_said so (runs line))
+line_on : (so : ScriptSoFar) (line : PlanLine) → IsWritable (runs line) → fault_of_line 0 false false so.over (runs line) ≡ None
+    → read_line 0 false false so (said_text (runs line)) ≡ Ok (with_said so (runs line))
 line_on so line can clear =
-    ap (λ ignored. cond ignored (Ok so) (read_said 0 false so (said_of (said_text (runs line))))) (not_ignored (runs line))
-    ∙ ap (read_said 0 false so) (said_written (runs line) can)
+    ap (λ ignored. cond ignored (Ok so) (read_said 0 false false so (said_of (said_text (runs line))))) (not_ignored (runs line))
+    ∙ ap (read_said 0 false false so) (said_written (runs line) can)
     ∙ ap (unless_fault (with_said so (runs line))) clear
 
 -- all lines, after which every input has ended
-lines_on : (number : ℕ) (so : ScriptSoFar) (lines : List PlanLine) → Pass 0 false so.over lines → list_any not (over_all so.over lines) ≡ false
-    → read_from 0 false number so (texts_of lines) ≡ Ok (read_behind so lines)
+lines_on : (number : ℕ) (so : ScriptSoFar) (lines : List PlanLine) → Pass 0 false false so.over lines → list_any not (over_all so.over lines) ≡ false
+    → read_from 0 false false number so (texts_of lines) ≡ Ok (read_behind so lines)
 lines_on number so [] pass ended = ap (λ left. cond left (Err (fault_at number NoEnd)) (Ok so)) ended
 lines_on number so (line ∷ lines) pass ended =
-    ap (reads_on number (λ next. read_from 0 false (number + 1) next (texts_of lines))) (line_on so line pass.0.1 pass.0.0)
+    ap (reads_on number (λ next. read_from 0 false false (number + 1) next (texts_of lines))) (line_on so line pass.0.1 pass.0.0)
     ∙ lines_on (number + 1) (with_said so (runs line)) lines pass.1 ended
 
 lines_behind : (so : ScriptSoFar) (lines : List PlanLine) → (read_behind so lines).lines ≡ so.lines ++ lines
@@ -53,11 +53,11 @@ rules_behind so (line ∷ lines) = rules_behind (with_said so (runs line)) lines
 
 -- These lines have no fault where the inputs stand so before them, and leave the inputs so; they open connections with these rules, none each.
 record Goes (before : List Bool) (lines : List PlanLine) (behind : List Bool) (rules : List (List PlanRule)) : Type 0 where
-  pass : Pass 0 false before lines
+  pass : Pass 0 false false before lines
   over : over_all before lines ≡ behind
   opened : flat_map rules_opened lines ≡ rules
 
-pass_append : (before : List Bool) (xs ys : List PlanLine) → Pass 0 false before xs → Pass 0 false (over_all before xs) ys → Pass 0 false before (xs ++ ys)
+pass_append : (before : List Bool) (xs ys : List PlanLine) → Pass 0 false false before xs → Pass 0 false false (over_all before xs) ys → Pass 0 false false before (xs ++ ys)
 pass_append before [] ys pass then = then
 pass_append before (x ∷ xs) ys pass then = (pass.0, pass_append (over_behind x before) xs ys pass.1 then)
 
@@ -68,7 +68,7 @@ over_append before (x ∷ xs) ys = over_append (over_behind x before) xs ys
 -- first these lines, and then those
 goes_on : (a b c : List Bool) (xs ys : List PlanLine) (r s : List (List PlanRule)) → Goes a xs b r → Goes b ys c s → Goes a (xs ++ ys) c (r ++ s)
 goes_on a b c xs ys r s first more = record {
-  pass = pass_append a xs ys first.pass (subst (λ over. Pass 0 false over ys) (sym first.over) more.pass);
+  pass = pass_append a xs ys first.pass (subst (λ over. Pass 0 false false over ys) (sym first.over) more.pass);
   over = over_append a xs ys ∙ ap (λ over. over_all over ys) first.over ∙ more.over;
   opened = flat_map-append rules_opened xs ys ∙ ap (λ rs. rs ++ flat_map rules_opened ys) first.opened ∙ ap (λ rs. r ++ rs) more.opened;
 }
@@ -129,7 +129,7 @@ ends_go (suc m) i few =
     record {
       pass = (
         (ap (λ t. cond t (Some NoConnection) (cond (get_or (ended_of i (suc m)) i false) (Some AfterEnd) None)) there ∙ ap (λ t. cond t (Some AfterEnd) None) going, omega arith),
-        subst (λ over. Pass 0 false over (map input_end (count_up (suc i) m))) (sym next) more.pass,
+        subst (λ over. Pass 0 false false over (map input_end (count_up (suc i) m))) (sym next) more.pass,
       );
       over = ap (λ over. over_all over (map input_end (count_up (suc i) m))) next ∙ more.over ∙ ap (λ n. replicate n true) (omega arith);
       opened = more.opened;
@@ -212,9 +212,9 @@ is_kept streams few all =
     let plan : ScriptPlan = plan_of_streams streams in
     let goes = whole_goes streams few all in
     let ended : list_any not (over_all [] plan.lines) ≡ false = ap (list_any not) goes.over ∙ all_ended n in
-    let read : plan_of_lines 0 false (texts_of plan.lines) ≡ read_as (read_behind nothing_read plan.lines).lines (read_behind nothing_read plan.lines).rules =
+    let read : plan_of_lines 0 false false (texts_of plan.lines) ≡ read_as (read_behind nothing_read plan.lines).lines (read_behind nothing_read plan.lines).rules =
     ap plan_read (lines_on 1 nothing_read plan.lines goes.pass ended) in
     let rules : (read_behind nothing_read plan.lines).rules ≡ replicate n [] = rules_behind nothing_read plan.lines ∙ goes.opened ∙ append-nil (replicate n []) in
     let same : read_as (read_behind nothing_read plan.lines).lines (read_behind nothing_read plan.lines).rules ≡ read_as plan.lines plan.rules =
     ap (λ lines. read_as lines (read_behind nothing_read plan.lines).rules) (lines_behind nothing_read plan.lines) ∙ ap (read_as plan.lines) rules in
-    plan_is_script 0 false (texts_of plan.lines) plan (omega arith) (read ∙ same)
+    plan_is_script 0 false false (texts_of plan.lines) plan (omega arith) (read ∙ same)

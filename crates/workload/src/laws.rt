@@ -26,10 +26,11 @@ pub fn every_workload_is_kept()
     ensures { (seed size : ℕ) → IsKeptScript (workload_plan seed size) }
 {}
 
-/// Where the print of a workload isn't too long, it is read as the workload, for any number of workers, with lines of a schedule or without.
+/// Where the print of a workload isn't too long, it is read as the workload, for any number of workers, with lines of a schedule or without, and with
+/// `rest` lines or without.
 pub fn every_workload_is_read_back()
-    ensures { (seed size workers : ℕ) (schedule : Bool) → length (print_of (workload_plan seed size)) ≤ longest_script
-        → script_of_text workers schedule (print_of (workload_plan seed size)) ≡ Ok (workload_plan seed size) }
+    ensures { (seed size workers : ℕ) (schedule rest : Bool) → length (print_of (workload_plan seed size)) ≤ longest_script
+        → script_of_text workers schedule rest (print_of (workload_plan seed size)) ≡ Ok (workload_plan seed size) }
 {
     a_script_is_read_back();
 }

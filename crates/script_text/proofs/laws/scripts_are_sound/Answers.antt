@@ -8,4 +8,4 @@ pub returns-clause-sound : goal.returns-clause-sound
 returns-clause-sound c = sound
 
 pub returns-clause-workers : goal.returns-clause-workers
-returns-clause-workers c = λ workers schedule text script is. workers_by workers schedule script (plan_stands workers schedule (text_lines text) script (lines_read workers schedule text script is))
+returns-clause-workers c = λ workers schedule rest text script is. workers_by workers schedule rest script (plan_stands workers schedule rest (text_lines text) script (lines_read workers schedule rest text script is))
