@@ -5,6 +5,7 @@ ghost use Rattle.machine_model.specs.SeenHall.{MayHave};
 ghost use Rattle.hall_core.specs.Meant.{opened_hall};
 
 use crate::answering::apply_with;
+use crate::hall_steps::HallSteps;
 use crate::operation::{HallOp, HallReply};
 use crate::queue::Queue;
 use crate::queueing::{collect, put, submit, take};
@@ -145,27 +146,6 @@ impl<H: Handler, J: Journal> Hall<H, J> {
     }
 }
 
-/// Parts of steps, for who keeps the outcomes of a hall's jobs elsewhere.
-impl<H: Handler, J: Journal> Hall<H, J> {
-    ghost use Rattle.std.specs.Prelude.{true};
-    ghost use Rattle.machine_model.specs.HallState.{has_key, without};
-
-    /// Lets a key go that is taken, with no outcome of it.
-    pub fn free(&mut self, key: Key)
-        requires { has_key key self.old.taken ≡ true }
-        ensures { self.new ≡ record self.old { taken = without key self.old.taken } }
-    {
-        self.queue.free(key)
-    }
-
-    /// Whether it takes no more jobs.
-    pub fn is_closed(&self) -> bool
-        ensures { result ≡ self.now.closed }
-    {
-        self.closed
-    }
-}
-
 impl<H: Handler, J: Journal> Object for Hall<H, J> {
     ghost use Rattle.hall_core.specs.Asked.{StepGives, StepCan, StepMay};
     ghost use Rattle.hall_core.specs.Following.{steps_follow};
@@ -208,4 +188,23 @@ impl<H: Handler, J: Journal> Object for Hall<H, J> {
     }
 
     ghost follows = { steps_follow };
+}
+
+impl<H: Handler, J: Journal> HallSteps for Hall<H, J> {
+    ghost seen = { λ hall. hall };
+
+    #[inline(always)]
+    fn step_op(&mut self, op: HallOp) -> HallReply {
+        self.step(op)
+    }
+
+    #[inline(always)]
+    fn free(&mut self, key: Key) {
+        self.queue.free(key)
+    }
+
+    #[inline(always)]
+    fn is_closed(&self) -> bool {
+        self.closed
+    }
 }
