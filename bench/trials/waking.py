@@ -3,9 +3,11 @@
 
 No clause speaks of who wakes whom. So the program is built without proofs, with delays of changing length between the steps of the door and of the links' bell, and
 with a gate that delays each job before it is decided and after it is put, those of connection 0 by a tenth of a second and more. It serves with 1 to 8 workers, 1 to
-64 connections and 1 to 5 calls under way on each, in bursts with pauses of up to 2 ms, on all processors and on two. A burst that isn't answered within 20 seconds is
-a stall. Beside the bursts connection 0 makes its long calls one after another: with two workers or more the bursts may not wait for these, as their median tells. The
+64 connections and 1 to 5 calls under way on each, in bursts with pauses of up to 2 ms, on all processors and on two. A burst that isn't answered within 20 seconds in
+which the server's threads ran or waited for a processor for less than one, or within 300, is a stall. Beside the bursts connection 0 makes its long calls one after
+another: with two workers or more the bursts may not wait for these, as their median tells. The
 script runs so many seconds (600), prints a line for each server, and ends with status 1 at the first stall. FOLDER keeps the program for the next run."""
+import glob
 import os
 import random
 import re
@@ -102,27 +104,48 @@ REPLY = 27
 
 class Link:
     def __init__(self, port):
-        self.socket, self.number = socket.create_connection(("127.0.0.1", port)), 0
+        self.socket, self.number, self.left = socket.create_connection(("127.0.0.1", port)), 0, 0
         self.socket.setsockopt(socket.IPPROTO_TCP, socket.TCP_NODELAY, 1)
 
     def ask(self, count):
         self.socket.sendall(b"".join(call(self.number + k) for k in range(count)))
         self.number += count
+        self.left += count * REPLY
 
-    def take(self, count, limit):
-        """Whether as many replies come in time."""
-        left, end = count * REPLY, time.monotonic() + limit
-        while left:
+    def take(self, limit):
+        """Whether all replies come in time. Where they don't, it can be asked again."""
+        end = time.monotonic() + limit
+        while self.left:
             if not select.select([self.socket], [], [], max(0, end - time.monotonic()))[0]:
                 return False
-            came = len(self.socket.recv(left))
+            came = len(self.socket.recv(self.left))
             if not came:
                 return False
-            left -= came
+            self.left -= came
         return True
 
 
-def bursts(links, random_of, end):
+def busy(server):
+    """The seconds for which the server's threads have run or waited for a processor."""
+    total = 0
+    for task in glob.glob("/proc/%d/task/*/schedstat" % server.pid):
+        with open(task, encoding="ascii") as file:
+            total += sum(map(int, file.read().split()[:2]))
+    return total / 1e9
+
+
+def answered_in_time(server, link):
+    """Whether all replies come before the server has stood still for long. (On a loaded machine long calls take their time.)"""
+    for _ in range(15):
+        before = busy(server)
+        if link.take(20):
+            return True
+        if busy(server) - before < 1:
+            return False
+    return False
+
+
+def bursts(server, links, random_of, end):
     """The seconds of each burst, and whether all were answered."""
     times = []
     while time.monotonic() < end:
@@ -130,7 +153,7 @@ def bursts(links, random_of, end):
         for link in some:
             link.ask(depth)
         for link in some:
-            if not link.take(depth, 20):
+            if not answered_in_time(server, link):
                 return times, False
         times.append(time.monotonic() - start)
         if random_of.random() < 0.7:
@@ -142,7 +165,7 @@ def keep_calling(link, going):
     while going.is_set() and link.socket.fileno() >= 0:
         try:
             link.ask(1)
-            if not link.take(1, 60):
+            if not link.take(300):
                 return
         except OSError:
             # (the server has been stopped)
@@ -161,7 +184,7 @@ def serve(built, workers, connections, processors, random_of, seconds):
         going.set()
         beside = threading.Thread(target=keep_calling, args=(slow, going), daemon=True)
         beside.start()
-        times, answered = bursts(links, random_of, time.monotonic() + seconds)
+        times, answered = bursts(server, links, random_of, time.monotonic() + seconds)
         going.clear()
         server.kill()
     beside.join()
