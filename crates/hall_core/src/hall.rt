@@ -5,6 +5,7 @@ ghost use Rattle.machine_model.specs.SeenHall.{MayHave};
 ghost use Rattle.hall_core.specs.Meant.{opened_hall};
 
 use crate::answering::apply_with;
+use crate::hall_steps::HallSteps;
 use crate::operation::{HallOp, HallReply};
 use crate::queue::Queue;
 use crate::queueing::{collect, put, submit, take};
@@ -187,4 +188,23 @@ impl<H: Handler, J: Journal> Object for Hall<H, J> {
     }
 
     ghost follows = { steps_follow };
+}
+
+impl<H: Handler, J: Journal> HallSteps for Hall<H, J> {
+    ghost seen = { λ hall. hall };
+
+    #[inline(always)]
+    fn step_op(&mut self, op: HallOp) -> HallReply {
+        self.step(op)
+    }
+
+    #[inline(always)]
+    fn free(&mut self, key: Key) {
+        self.queue.free(key)
+    }
+
+    #[inline(always)]
+    fn is_closed(&self) -> bool {
+        self.closed
+    }
 }

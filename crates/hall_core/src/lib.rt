@@ -28,6 +28,7 @@
 
 mod answering;
 mod hall;
+mod hall_steps;
 mod job;
 mod laws;
 mod operation;
@@ -36,6 +37,7 @@ mod queueing;
 mod settling;
 
 pub use hall::{Hall, HallMeaning, NoHall};
+pub use hall_steps::HallSteps;
 pub use job::Job;
 pub use laws::journals_tell_of_services;
 pub use operation::{HallOp, HallReply};

@@ -104,6 +104,15 @@ impl Queue {
         Some(job)
     }
 
+    /// Lets a key go that is taken, with no outcome of it.
+    pub(crate) fn free(&mut self, key: Key)
+        requires { has_key key self.old.taken ≡ true }
+        ensures { self.new ≡ record self.old { taken = without key self.old.taken } }
+    {
+        let place = place_of(self.taken.as_slice(), key);
+        self.taken.remove(place);
+    }
+
     /// Adds an outcome of a key that is taken, and no longer then.
     pub(crate) fn put(&mut self, key: Key, settled: Settled)
         requires { has_key key self.old.taken ≡ true }
