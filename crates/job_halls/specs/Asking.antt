@@ -5,8 +5,8 @@ use Rattle.call_history.specs.Calls.{seat_ask}
 use Rattle.call_rules.specs.PlainCalls.{PlainCall, PlainAnswer}
 use Rattle.machine_model.specs.HallRule.{HallOperation, submit, collect, close, HallAnswer, done, empty, is_closed, outcome}
 use Rattle.machine_model.specs.OwnCalls.{HallAsk, longest_payload, submits_key, any_of, adds_key, frees_key, summed_calls}
-use Rattle.job_halls.specs.declared.job_hall.Collected.{Collected}
-use Rattle.job_halls.specs.declared.job_hall.Collected.TheVariants.{Outcome, Empty, Closed}
+use Rattle.job_halls.specs.declared.job_hall.TakenOutcome.{TakenOutcome}
+use Rattle.job_halls.specs.declared.job_hall.TakenOutcome.TheVariants.{Outcome, Empty, Closed}
 
 -- an ask of a hall, over plain calls and answers
 abbrev pub LoopAsk : Type 0
@@ -22,15 +22,15 @@ abbrev pub GoesOnBy : List LoopAsk → List LoopAsk → HallOperation PlainCall 
 GoesOnBy old new op answer = new ≡ old ++ seat_ask 0 op answer ∷ []
 
 -- a job was to be submitted, and the hall took it, or was closed
-abbrev pub SubmitsJob : List LoopAsk → List LoopAsk → Key → List ℕ → Bool → Type 0
-SubmitsJob old new key payload true = GoesOnBy old new (submit key payload) done
-SubmitsJob old new key payload false = GoesOnBy old new (submit key payload) is_closed
+abbrev pub HandsInJob : List LoopAsk → List LoopAsk → Key → List ℕ → Bool → Type 0
+HandsInJob old new key payload true = GoesOnBy old new (submit key payload) done
+HandsInJob old new key payload false = GoesOnBy old new (submit key payload) is_closed
 
 -- an outcome was to be collected, and this has come of it
-abbrev pub CollectsOutcome : List LoopAsk → List LoopAsk → Collected → Type 0
-CollectsOutcome old new (Outcome key settled) = GoesOnBy old new collect (outcome key settled)
-CollectsOutcome old new Empty = GoesOnBy old new collect empty
-CollectsOutcome old new Closed = GoesOnBy old new collect is_closed
+abbrev pub GainsOutcome : List LoopAsk → List LoopAsk → TakenOutcome → Type 0
+GainsOutcome old new (Outcome key settled) = GoesOnBy old new collect (outcome key settled)
+GainsOutcome old new Empty = GoesOnBy old new collect empty
+GainsOutcome old new Closed = GoesOnBy old new collect is_closed
 
 -- the hall was closed
 abbrev pub ClosesIt : List LoopAsk → List LoopAsk → Type 0

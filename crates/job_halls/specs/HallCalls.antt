@@ -20,19 +20,19 @@ use Rattle.hall_core.specs.Following.{call_seen, seen_history, same_asks, asks_b
 use Rattle.job_halls.specs.HallAnswers.{MayAnswer, answers_seen}
 
 -- a seat at a booth round a hall
-abbrev pub HallSeat : Type 0
-HallSeat = SeatView HallOp HallReply ServedHall
+abbrev pub SeatAtHall : Type 0
+SeatAtHall = SeatView HallOp HallReply ServedHall
 
 -- a seat's calls, as asks of the machine's hall
-abbrev pub asks_made : List StepCall → List (HallAsk PlainCall PlainAnswer)
-asks_made own = map ask_seen own
+abbrev pub asks_at_hall : List StepCall → List (HallAsk PlainCall PlainAnswer)
+asks_at_hall own = map ask_seen own
 
 -- a newly opened hall, whose journal has no entries where it tells
 pub record IsOpenedHall (first : ServedHall) : Type 0 where
   pub opened : IsNewlyOpened (filled first [])
   pub empty : MayHave first.told []
 
-module _ (booth : BoothView ServedHall) (old new : HallSeat) (op : HallOp) (found : HallReply) (m : MakesCall StepGives StepMay booth old op found new) where
+module _ (booth : BoothView ServedHall) (old new : SeatAtHall) (op : HallOp) (found : HallReply) (m : MakesCall StepGives StepMay booth old op found new) where
   -- the call
   abbrev call_made : StepCall
   call_made = seat_call old.number op found m.after
@@ -48,27 +48,27 @@ module _ (booth : BoothView ServedHall) (old new : HallSeat) (op : HallOp) (foun
       (IsHistory-at StepGives booth.opening calls_before [] call_made (subst (IsHistory StepGives booth.opening) m.seen m.history))
 
   -- the seat has made one ask more
-  pub one_more : asks_made new.mine ≡ asks_made old.mine ++ seat_ask old.number (operation_of op) (answer_of found) ∷ []
-  one_more = ap asks_made m.mine ∙ map-append ask_seen old.mine (call_made ∷ [])
+  pub hall_one_more : asks_at_hall new.mine ≡ asks_at_hall old.mine ++ seat_ask old.number (operation_of op) (answer_of found) ∷ []
+  hall_one_more = ap asks_at_hall m.mine ∙ map-append ask_seen old.mine (call_made ∷ [])
 
   -- all calls up to this one as a history of the machine's hall, whose last ask it is
-  pub record IsMade : Type 0 where
+  pub record HallSoFar : Type 0 where
     pub full : List (HallCall PlainCall PlainAnswer ServiceState)
     pub history : IsHistory (HallGives handler_rules) (filled booth.opening []) full
     pub allowed : AllAllowed (HallMay handler_rules) (filled booth.opening []) (asks_of full)
-    pub last : asks_of full ≡ asks_made calls_before ++ seat_ask old.number (operation_of op) (answer_of found) ∷ []
-    pub mine : calls_by old.number (asks_of full) ≡ asks_made new.mine
+    pub last : asks_of full ≡ asks_at_hall calls_before ++ seat_ask old.number (operation_of op) (answer_of found) ∷ []
+    pub mine : calls_by old.number (asks_of full) ≡ asks_at_hall new.mine
 
-  pub is_made : IsOpenedHall booth.opening → IsMade
-  is_made opened =
+  pub hall_so_far : IsOpenedHall booth.opening → HallSoFar
+  hall_so_far opened =
       let full : IsFilled handler_rules booth.opening [] (map call_seen new.seen) =
       fill handler_rules booth.opening [] (map call_seen new.seen) opened.empty (seen_history booth.opening new.seen m.history) in
-      let asks : asks_of full.0 ≡ asks_made new.seen = full.3 ∙ same_asks new.seen in
+      let asks : asks_of full.0 ≡ asks_at_hall new.seen = full.3 ∙ same_asks new.seen in
       record {
         full = full.0;
         history = full.2;
         allowed = subst (AllAllowed (HallMay handler_rules) (filled booth.opening [])) (sym full.3)
             (all_allowed handler_rules booth.opening (asks_of (map call_seen new.seen)) (seen_allowed booth.opening new.seen m.allowed));
-        last = asks ∙ ap asks_made m.seen ∙ map-append ask_seen calls_before (call_made ∷ []);
-        mine = ap (calls_by old.number) asks ∙ asks_by old.number new.seen ∙ ap asks_made m.own;
+        last = asks ∙ ap asks_at_hall m.seen ∙ map-append ask_seen calls_before (call_made ∷ []);
+        mine = ap (calls_by old.number) asks ∙ asks_by old.number new.seen ∙ ap asks_at_hall m.own;
       }

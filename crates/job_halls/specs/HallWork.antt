@@ -20,31 +20,31 @@ use Rattle.hall_core.specs.declared.operation.HallReply.{HallReply}
 use Rattle.hall_core.specs.declared.operation.HallReply.TheVariants as reply
 use Rattle.hall_core.specs.Meant.{ServedHall}
 use Rattle.hall_core.specs.Asked.{operation_of, answer_of, StepCall, StepGives, StepMay}
-use Rattle.job_halls.specs.declared.job_hall.Taken.{Taken}
-use Rattle.job_halls.specs.declared.job_hall.Taken.TheVariants.{Found, Empty, Closed}
-use Rattle.job_halls.specs.declared.job_hall.Tried.{Tried}
-use Rattle.job_halls.specs.declared.job_hall.Tried.TheVariants.{Answered, Unanswered, Failed}
+use Rattle.job_halls.specs.declared.job_hall.TakenJob.{TakenJob}
+use Rattle.job_halls.specs.declared.job_hall.TakenJob.TheVariants.{Found, Empty, Closed}
+use Rattle.job_halls.specs.declared.job_hall.AppliedCall.{AppliedCall}
+use Rattle.job_halls.specs.declared.job_hall.AppliedCall.TheVariants.{Answered, Unanswered, Failed}
 use Rattle.machine_model.specs.HallRule.{job_of}
-use Rattle.job_halls.specs.Working.{WorkerAsk, AddsAsk, TakesJob, TriesCall, HoldsJob, HoldsFound}
+use Rattle.job_halls.specs.Working.{WorkerAsk, AddsWorkerAsk, TakesJob, AppliesCall, HoldsItsJob, HoldsFound}
 use Rattle.job_halls.specs.Shortness.{taken_short}
-use Rattle.job_halls.specs.HallCalls.{HallSeat, asks_made, IsOpenedHall, calls_before, IsMade, is_made, may_answer, one_more}
+use Rattle.job_halls.specs.HallCalls.{SeatAtHall, asks_at_hall, IsOpenedHall, calls_before, HallSoFar, hall_so_far, may_answer, hall_one_more}
 
 -- what a seat asked in its calls, with the answers
-abbrev pub asked_in : List StepCall → List WorkerAsk
-asked_in own = map op_with_answer (asks_made own)
+abbrev pub worker_asks_at_hall : List StepCall → List WorkerAsk
+worker_asks_at_hall own = map op_with_answer (asks_at_hall own)
 
 -- how many services a hall has
 abbrev pub slots_of : ServedHall → ℕ
 slots_of hall = length hall.memories
 
 -- what a reply to Take means
-abbrev pub taken_reply : HallReply → Taken
+abbrev pub taken_reply : HallReply → TakenJob
 taken_reply (reply.Job key payload) = Found (job_of key payload)
 taken_reply reply.Closed = Closed
 taken_reply _ = Empty
 
 -- what a reply to Apply means
-abbrev pub tried_reply : HallReply → Tried
+abbrev pub tried_reply : HallReply → AppliedCall
 tried_reply (reply.Applied answer) = Answered answer
 tried_reply reply.NoMemory = Unanswered
 tried_reply _ = Failed
@@ -57,36 +57,36 @@ may_close_there first seat own o = ((o.empty, (o.opened, tt)), tt)
 
 -- a job that was taken and not put
 abbrev pub HoldsHere : ServedHall → ℕ → List StepCall → Key → List ℕ → Type 0
-HoldsHere first seat own = HoldsJob (StepMay first seat own) operation.Apply operation.Put (slots_of first)
+HoldsHere first seat own = HoldsItsJob (StepMay first seat own) operation.Apply operation.Put (slots_of first)
 
-module _ (booth : BoothView ServedHall) (old new : HallSeat) where
+module _ (booth : BoothView ServedHall) (old new : SeatAtHall) where
   abbrev Calls : HallOp → HallReply → Type 0
   Calls op found = MakesCall StepGives StepMay booth old op found new
 
-  adds : (op : HallOp) (found : HallReply) → Calls op found → AddsAsk (asked_in old.mine) (asked_in new.mine) (operation_of op) (answer_of found)
+  adds : (op : HallOp) (found : HallReply) → Calls op found → AddsWorkerAsk (worker_asks_at_hall old.mine) (worker_asks_at_hall new.mine) (operation_of op) (answer_of found)
   adds op found m =
-      ap (map op_with_answer) (one_more booth old new op found m)
-      ∙ map-append op_with_answer (asks_made old.mine) (seat_ask old.number (operation_of op) (answer_of found) ∷ [])
+      ap (map op_with_answer) (hall_one_more booth old new op found m)
+      ∙ map-append op_with_answer (asks_at_hall old.mine) (seat_ask old.number (operation_of op) (answer_of found) ∷ [])
 
   module _ (opened : IsOpenedHall booth.opening) (key : Key) (payload : List ℕ) (m : Calls operation.Take (reply.Job key payload)) where
-    made : IsMade booth old new operation.Take (reply.Job key payload) m
-    made = is_made booth old new operation.Take (reply.Job key payload) m opened
+    made : HallSoFar booth old new operation.Take (reply.Job key payload) m
+    made = hall_so_far booth old new operation.Take (reply.Job key payload) m opened
 
     abbrev before : List (HallAsk PlainCall PlainAnswer)
-    before = asks_made (calls_before booth old new operation.Take (reply.Job key payload) m)
+    before = asks_at_hall (calls_before booth old new operation.Take (reply.Job key payload) m)
 
     -- its call may be applied, since no seat has applied one under its key
-    call_allowed : (call : PlainCall) → call.slot < slots_of booth.opening → HallMay handler_rules (filled booth.opening []) old.number (asks_made new.mine) (apply key call)
+    call_allowed : (call : PlainCall) → call.slot < slots_of booth.opening → HallMay handler_rules (filled booth.opening []) old.number (asks_at_hall new.mine) (apply key call)
     call_allowed call slot =
         subst (λ (l : List (HallAsk PlainCall PlainAnswer)). HallMay handler_rules (filled booth.opening []) old.number l (apply key call)) made.mine
         (may_apply handler_rules (filled booth.opening []) made.full before old.number key payload call made.history made.allowed made.last slot)
 
     -- its key is held
-    key_held : holds_key key (asks_made new.mine) ≡ true
+    key_held : holds_key key (asks_at_hall new.mine) ≡ true
     key_held =
-        ap (holds_key key) (one_more booth old new operation.Take (reply.Job key payload) m)
-        ∙ (holds_push key false (asks_made old.mine) (seat_ask old.number take_job (job key payload))
-        ∙ ap (λ (b : Bool). if b then true else holds_key key (asks_made old.mine)) (is_same_self key))
+        ap (holds_key key) (hall_one_more booth old new operation.Take (reply.Job key payload) m)
+        ∙ (holds_push key false (asks_at_hall old.mine) (seat_ask old.number take_job (job key payload))
+        ∙ ap (λ (b : Bool). if b then true else holds_key key (asks_at_hall old.mine)) (is_same_self key))
 
     holds_there : HoldsHere booth.opening old.number new.mine key payload
     holds_there =
@@ -97,9 +97,9 @@ module _ (booth : BoothView ServedHall) (old new : HallSeat) where
         }
 
   -- what has come of Take
-  abbrev TakesThere : Taken → Type 0
+  abbrev TakesThere : TakenJob → Type 0
   TakesThere taken =
-      TakesJob (asked_in old.mine) (asked_in new.mine) taken × HoldsFound (StepMay booth.opening old.number new.mine) operation.Apply operation.Put (slots_of booth.opening) taken
+      TakesJob (worker_asks_at_hall old.mine) (worker_asks_at_hall new.mine) taken × HoldsFound (StepMay booth.opening old.number new.mine) operation.Apply operation.Put (slots_of booth.opening) taken
 
   pub takes_there : (found : HallReply) → IsOpenedHall booth.opening → Calls operation.Take found → TakesThere (taken_reply found)
   takes_there (reply.Job key payload) opened m = (adds operation.Take (reply.Job key payload) m, holds_there opened key payload m)
@@ -117,7 +117,7 @@ module _ (booth : BoothView ServedHall) (old new : HallSeat) where
     refused : (found : HallReply) → Calls (operation.Apply key call) found → (GoesOnAfter (answer_of found) → ⊥) → (StopsAfter (answer_of found) → ⊥) → ⊥
     refused found m on stop = ⊎_elim on stop (may_answer booth old new (operation.Apply key call) found m)
 
-    pub applies_there : (found : HallReply) → Calls (operation.Apply key call) found → TriesCall (asked_in old.mine) (asked_in new.mine) key call (tried_reply found)
+    pub applies_there : (found : HallReply) → Calls (operation.Apply key call) found → AppliesCall (worker_asks_at_hall old.mine) (worker_asks_at_hall new.mine) key call (tried_reply found)
     applies_there (reply.Applied answer) m = adds (operation.Apply key call) (reply.Applied answer) m
     applies_there reply.NoMemory m = adds (operation.Apply key call) reply.NoMemory m
     applies_there reply.JournalFault m = (answer_of reply.JournalFault, adds (operation.Apply key call) reply.JournalFault m, tt)
@@ -136,8 +136,8 @@ module _ (booth : BoothView ServedHall) (old new : HallSeat) where
         may.0.0,
         (
           may.0.1.0,
-          ap (holds_key held) (one_more booth old new (operation.Apply key call) found m)
-              ∙ (holds_push held false (asks_made old.mine) (seat_ask old.number (apply key call) (answer_of found)) ∙ may.0.1.1),
+          ap (holds_key held) (hall_one_more booth old new (operation.Apply key call) found m)
+              ∙ (holds_push held false (asks_at_hall old.mine) (seat_ask old.number (apply key call) (answer_of found)) ∙ may.0.1.1),
         ),
       ),
       tt,
@@ -145,11 +145,11 @@ module _ (booth : BoothView ServedHall) (old new : HallSeat) where
 
   -- where the answer is known
   adds_so : (op : HallOp) (found : HallReply) (answer : HallAnswer PlainAnswer) → Calls op found → answer_of found ≡ answer
-      → AddsAsk (asked_in old.mine) (asked_in new.mine) (operation_of op) answer
-  adds_so op found answer m so = subst (AddsAsk (asked_in old.mine) (asked_in new.mine) (operation_of op)) so (adds op found m)
+      → AddsWorkerAsk (worker_asks_at_hall old.mine) (worker_asks_at_hall new.mine) (operation_of op) answer
+  adds_so op found answer m so = subst (AddsWorkerAsk (worker_asks_at_hall old.mine) (worker_asks_at_hall new.mine) (operation_of op)) so (adds op found m)
 
-  pub puts_there : (key : Key) (settled : Settled) (found : HallReply) → Calls (operation.Put key settled) found → AddsAsk (asked_in old.mine) (asked_in new.mine) (put key settled) done
+  pub puts_there : (key : Key) (settled : Settled) (found : HallReply) → Calls (operation.Put key settled) found → AddsWorkerAsk (worker_asks_at_hall old.mine) (worker_asks_at_hall new.mine) (put key settled) done
   puts_there key settled found m = adds_so (operation.Put key settled) found done m (may_answer booth old new (operation.Put key settled) found m)
 
-  pub stops_there : (found : HallReply) → Calls operation.Close found → AddsAsk (asked_in old.mine) (asked_in new.mine) close done
+  pub stops_there : (found : HallReply) → Calls operation.Close found → AddsWorkerAsk (worker_asks_at_hall old.mine) (worker_asks_at_hall new.mine) close done
   stops_there found m = adds_so operation.Close found done m (may_answer booth old new operation.Close found m)

@@ -3,9 +3,9 @@
 ghost use Rattle.std.specs.Prelude.{◌≡◌};
 ghost use Rattle.machine_model.specs.OwnLoop.{CollectsItsOwn};
 ghost use Rattle.seat_booth.specs.Seats.{IsSeatOf};
-ghost use Rattle.job_halls.specs.Asking.{MaySubmit, SubmitsJob, CollectsOutcome, ClosesIt};
+ghost use Rattle.job_halls.specs.Asking.{MaySubmit, HandsInJob, GainsOutcome, ClosesIt};
 
-use crate::job_hall::{Collected, JobHall, Side};
+use crate::job_hall::{JobHall, Side, TakenOutcome};
 use call_rules::Key;
 use seat_booth::{Booth, Seat};
 use std::sync::Wait;
@@ -30,7 +30,7 @@ pub fn submit<O: JobHall, R: Wait>(
     ensures seat { IsSeatOf booth.now seat.new }
     ensures number { seat.new.number ≡ side.number }
     ensures fits { O.fits side seat.new.mine }
-    ensures submitted { SubmitsJob (O.asks side seat.old.mine) (O.asks side seat.new.mine) key payload result }
+    ensures submitted { HandsInJob (O.asks side seat.old.mine) (O.asks side seat.new.mine) key payload result }
     ensures own { CollectsItsOwn (O.asks side seat.new.mine) }
 {
     let op = O::submit_op(side, key, payload);
@@ -45,7 +45,7 @@ pub fn collect<O: JobHall, R: Wait>(
     booth: &Booth<O>,
     seat: &mut Seat<O>,
     side: Side,
-) -> Collected
+) -> TakenOutcome
     requires seat { IsSeatOf booth.now seat.old }
     requires hall { O.opened_for side booth.now.opening }
     requires own { seat.old.number ≡ side.number }
@@ -53,7 +53,7 @@ pub fn collect<O: JobHall, R: Wait>(
     ensures seat { IsSeatOf booth.now seat.new }
     ensures number { seat.new.number ≡ side.number }
     ensures fits { O.fits side seat.new.mine }
-    ensures collected { CollectsOutcome (O.asks side seat.old.mine) (O.asks side seat.new.mine) result }
+    ensures collected { GainsOutcome (O.asks side seat.old.mine) (O.asks side seat.new.mine) result }
     ensures own { CollectsItsOwn (O.asks side seat.new.mine) }
 {
     let op = O::collect_op(side);

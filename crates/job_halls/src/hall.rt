@@ -2,21 +2,19 @@
 
 ghost use Rattle.std.specs.Prelude.{◌≡◌};
 
-use crate::job_hall::{Collected, JobHall, Side, Taken, Tried};
+use crate::job_hall::{AppliedCall, JobHall, Side, TakenJob, TakenOutcome};
+use crate::replies::{drop_reply, taken_by, took_job, tried_by};
 use call_rules::{Call, Handler, Journal, Key};
-use hall_core::{Hall, HallOp, HallReply, Job};
+use hall_core::{Hall, HallOp, HallReply};
 use limits::MOST_CONNECTIONS;
 use streams::{Bytes, Settled};
-
-/// Lets a reply go, of whichever kind it is.
-fn drop_reply(_reply: HallReply) {}
 
 impl<H: Handler, J: Journal> JobHall for Hall<H, J> {
     ghost use Rattle.std.specs.Prelude.{refl};
     ghost use Rattle.hall_core.specs.declared.operation.HallOp.TheVariants as ops;
-    ghost use Rattle.job_halls.specs.HallCalls.{asks_made, IsOpenedHall};
-    ghost use Rattle.job_halls.specs.HallLoop.{IsOpenedAt, most_keys, took_reply, collected_reply, may_submit_there, may_collect_there, its_own_there, submits_there, collects_there, closes_there};
-    ghost use Rattle.job_halls.specs.HallWork.{asked_in, slots_of, taken_reply, tried_reply, may_take_there, may_close_there, takes_there, applies_there, still_there, puts_there, stops_there};
+    ghost use Rattle.job_halls.specs.HallCalls.{asks_at_hall, IsOpenedHall};
+    ghost use Rattle.job_halls.specs.HallLoop.{IsOpenedAt, most_keys, took_reply, outcome_reply, may_submit_there, may_collect_there, its_own_there, submits_there, collects_there, closes_there};
+    ghost use Rattle.job_halls.specs.HallWork.{worker_asks_at_hall, slots_of, taken_reply, tried_reply, may_take_there, may_close_there, takes_there, applies_there, still_there, puts_there, stops_there};
 
     ghost opened = { IsOpenedHall };
 
@@ -26,11 +24,11 @@ impl<H: Handler, J: Journal> JobHall for Hall<H, J> {
 
     ghost share = { λ side. most_keys };
 
-    ghost asks = { λ side own. asks_made own };
+    ghost asks = { λ side own. asks_at_hall own };
 
     ghost fits = { λ side own. Unit {0} };
 
-    ghost worker_asks = { asked_in };
+    ghost worker_asks = { worker_asks_at_hall };
 
     ghost names = { λ side key. Unit {0} };
 
@@ -48,7 +46,7 @@ impl<H: Handler, J: Journal> JobHall for Hall<H, J> {
 
     ghost took_so = { took_reply };
 
-    ghost come_of = { λ side reply. collected_reply reply };
+    ghost come_of = { λ side reply. outcome_reply reply };
 
     ghost taken_of = { taken_reply };
 
@@ -91,45 +89,29 @@ impl<H: Handler, J: Journal> JobHall for Hall<H, J> {
 
     #[inline(always)]
     fn took(reply: HallReply) -> bool {
-        let is_done = matches!(&reply, HallReply::Done);
-        drop_reply(reply);
-        is_done
+        took_job(reply)
     }
 
     #[inline(always)]
-    fn collected(_side: Side, reply: HallReply) -> Collected {
+    fn collected(_side: Side, reply: HallReply) -> TakenOutcome {
         match reply {
-            HallReply::Settled(key, settled) => Collected::Outcome(key, settled),
-            HallReply::Closed => Collected::Closed,
+            HallReply::Settled(key, settled) => TakenOutcome::Outcome(key, settled),
+            HallReply::Closed => TakenOutcome::Closed,
             other => {
                 drop_reply(other);
-                Collected::Empty
+                TakenOutcome::Empty
             }
         }
     }
 
     #[inline(always)]
-    fn taken(reply: HallReply) -> Taken {
-        match reply {
-            HallReply::Job(key, payload) => Taken::Found(Job { key, payload }),
-            HallReply::Closed => Taken::Closed,
-            other => {
-                drop_reply(other);
-                Taken::Empty
-            }
-        }
+    fn taken(reply: HallReply) -> TakenJob {
+        taken_by(reply)
     }
 
     #[inline(always)]
-    fn tried(reply: HallReply) -> Tried {
-        match reply {
-            HallReply::Applied(answer) => Tried::Answered(answer),
-            HallReply::NoMemory => Tried::Unanswered,
-            other => {
-                drop_reply(other);
-                Tried::Failed
-            }
-        }
+    fn tried(reply: HallReply) -> AppliedCall {
+        tried_by(reply)
     }
 
     #[inline(always)]

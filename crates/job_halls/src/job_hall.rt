@@ -9,11 +9,11 @@ ghost use Rattle.seat_booth.specs.Seats.{BoothView, SeatView, MakesCall};
 ghost use Rattle.machine_model.specs.HallRule as rule;
 ghost use Rattle.machine_model.specs.OwnLoop.{CollectsItsOwn};
 ghost use Rattle.job_halls.specs.declared.job_hall.Side.{Side};
-ghost use Rattle.job_halls.specs.declared.job_hall.Collected.{Collected};
-ghost use Rattle.job_halls.specs.declared.job_hall.Taken.{Taken};
-ghost use Rattle.job_halls.specs.declared.job_hall.Tried.{Tried};
-ghost use Rattle.job_halls.specs.Asking.{LoopAsk, MaySubmit, SubmitsJob, CollectsOutcome, ClosesIt};
-ghost use Rattle.job_halls.specs.Working.{WorkerAsk, AddsAsk, TakesJob, HoldsFound, TriesCall};
+ghost use Rattle.job_halls.specs.declared.job_hall.TakenOutcome.{TakenOutcome};
+ghost use Rattle.job_halls.specs.declared.job_hall.TakenJob.{TakenJob};
+ghost use Rattle.job_halls.specs.declared.job_hall.AppliedCall.{AppliedCall};
+ghost use Rattle.job_halls.specs.Asking.{LoopAsk, MaySubmit, HandsInJob, GainsOutcome, ClosesIt};
+ghost use Rattle.job_halls.specs.Working.{WorkerAsk, AddsWorkerAsk, TakesJob, HoldsFound, AppliesCall};
 
 use call_rules::{Answer, Call, Key};
 use hall_core::Job;
@@ -29,7 +29,7 @@ pub struct Side {
 
 /// What has come of a try to collect an outcome.
 #[derive(Drop)]
-pub enum Collected {
+pub enum TakenOutcome {
     /// The oldest outcome, with its key.
     Outcome(Key, Settled),
     /// There is none yet.
@@ -40,7 +40,7 @@ pub enum Collected {
 
 /// What has come of a try to take a job.
 #[derive(Drop)]
-pub enum Taken {
+pub enum TakenJob {
     /// The oldest job.
     Found(Job),
     /// There is none yet.
@@ -51,7 +51,7 @@ pub enum Taken {
 
 /// What has come of a call that was applied.
 #[derive(Drop)]
-pub enum Tried {
+pub enum AppliedCall {
     /// It is answered so.
     Answered(Answer),
     /// There was no memory for it, or for its answer.
@@ -100,11 +100,11 @@ pub trait JobHall: Object {
     // what a reply means: to Submit, Collect, Take and Apply
     ghost took_so: { Self.Reply → Bool };
 
-    ghost come_of: { Side → Self.Reply → Collected };
+    ghost come_of: { Side → Self.Reply → TakenOutcome };
 
-    ghost taken_of: { Self.Reply → Taken };
+    ghost taken_of: { Self.Reply → TakenJob };
 
-    ghost tried_of: { Self.Reply → Tried };
+    ghost tried_of: { Self.Reply → AppliedCall };
 
     /// How many keys a loop may have that are submitted and not collected.
     fn most_keys(side: Side) -> usize
@@ -140,15 +140,15 @@ pub trait JobHall: Object {
         ensures { result ≡ took_so reply };
 
     /// What a reply to Collect means, by the key of the loop's links.
-    fn collected(side: Side, reply: Self::Reply) -> Collected
+    fn collected(side: Side, reply: Self::Reply) -> TakenOutcome
         ensures { result ≡ come_of side reply };
 
     /// What a reply to Take means.
-    fn taken(reply: Self::Reply) -> Taken
+    fn taken(reply: Self::Reply) -> TakenJob
         ensures { result ≡ taken_of reply };
 
     /// What a reply to Apply means.
-    fn tried(reply: Self::Reply) -> Tried
+    fn tried(reply: Self::Reply) -> AppliedCall
         ensures { result ≡ tried_of reply };
 
     /// Lets a reply go, of whichever kind it is.
@@ -171,11 +171,11 @@ pub trait JobHall: Object {
     // What a loop's calls add to what it has asked; and they are a loop's after it as before.
     ghost submits: { (side : Side) (booth : BoothView Self.Meaning) (old new : SeatView Self.Op Self.Reply Self.Meaning) (key : Key) (payload : List ℕ) (reply : Self.Reply) → opened_for side booth.opening
         → old.number ≡ side.number → fits side old.mine → MakesCall Self.gives Self.may booth old (the_submit side key payload) reply new
-        → SubmitsJob (asks side old.mine) (asks side new.mine) key payload (took_so reply) × fits side new.mine };
+        → HandsInJob (asks side old.mine) (asks side new.mine) key payload (took_so reply) × fits side new.mine };
 
     ghost collects: { (side : Side) (booth : BoothView Self.Meaning) (old new : SeatView Self.Op Self.Reply Self.Meaning) (reply : Self.Reply) → opened_for side booth.opening
         → old.number ≡ side.number → fits side old.mine → MakesCall Self.gives Self.may booth old (the_collect side) reply new
-        → CollectsOutcome (asks side old.mine) (asks side new.mine) (come_of side reply) × fits side new.mine };
+        → GainsOutcome (asks side old.mine) (asks side new.mine) (come_of side reply) × fits side new.mine };
 
     ghost closes: { (side : Side) (booth : BoothView Self.Meaning) (old new : SeatView Self.Op Self.Reply Self.Meaning) (reply : Self.Reply) → opened_for side booth.opening
         → old.number ≡ side.number → fits side old.mine → MakesCall Self.gives Self.may booth old the_close reply new
@@ -195,15 +195,15 @@ pub trait JobHall: Object {
         → TakesJob (worker_asks old.mine) (worker_asks new.mine) (taken_of reply) × HoldsFound (Self.may booth.opening old.number new.mine) the_apply the_put (slots booth.opening) (taken_of reply) };
 
     ghost applies: { (booth : BoothView Self.Meaning) (old new : SeatView Self.Op Self.Reply Self.Meaning) (key : Key) (call : PlainCall) (reply : Self.Reply)
-        → MakesCall Self.gives Self.may booth old (the_apply key call) reply new → TriesCall (worker_asks old.mine) (worker_asks new.mine) key call (tried_of reply) };
+        → MakesCall Self.gives Self.may booth old (the_apply key call) reply new → AppliesCall (worker_asks old.mine) (worker_asks new.mine) key call (tried_of reply) };
 
     ghost still_held: { (booth : BoothView Self.Meaning) (old new : SeatView Self.Op Self.Reply Self.Meaning) (key : Key) (call : PlainCall) (reply : Self.Reply) (held : Key) (settled : Settled)
         → MakesCall Self.gives Self.may booth old (the_apply key call) reply new → Self.may booth.opening old.number old.mine (the_put held settled)
         → Self.may booth.opening old.number new.mine (the_put held settled) };
 
     ghost puts: { (booth : BoothView Self.Meaning) (old new : SeatView Self.Op Self.Reply Self.Meaning) (key : Key) (settled : Settled) (reply : Self.Reply)
-        → MakesCall Self.gives Self.may booth old (the_put key settled) reply new → AddsAsk (worker_asks old.mine) (worker_asks new.mine) (rule.put key settled) rule.done };
+        → MakesCall Self.gives Self.may booth old (the_put key settled) reply new → AddsWorkerAsk (worker_asks old.mine) (worker_asks new.mine) (rule.put key settled) rule.done };
 
     ghost stops: { (booth : BoothView Self.Meaning) (old new : SeatView Self.Op Self.Reply Self.Meaning) (reply : Self.Reply)
-        → MakesCall Self.gives Self.may booth old the_close reply new → AddsAsk (worker_asks old.mine) (worker_asks new.mine) rule.close rule.done };
+        → MakesCall Self.gives Self.may booth old the_close reply new → AddsWorkerAsk (worker_asks old.mine) (worker_asks new.mine) rule.close rule.done };
 }

@@ -8,10 +8,10 @@
 //! let side = Side { loops: 1, number: 0 };
 //! if submit(rt, &booth, &mut seat, side, key, payload) { .. }                   // whether it took the job
 //! match take(rt, &booth, &mut workers_seat) {
-//!     Taken::Found(job) => put(rt, &booth, &mut workers_seat, job.key, Settled::Nothing),
-//!     Taken::Empty | Taken::Closed => ..,
+//!     TakenJob::Found(job) => put(rt, &booth, &mut workers_seat, job.key, Settled::Nothing),
+//!     TakenJob::Empty | TakenJob::Closed => ..,
 //! }
-//! let Collected::Outcome(key, settled) = collect(rt, &booth, &mut seat, side) else { .. };
+//! let TakenOutcome::Outcome(key, settled) = collect(rt, &booth, &mut seat, side) else { .. };
 //! ```
 //!
 //! It decides on no payload, knows no connection, and starts no thread.
@@ -20,8 +20,10 @@
 mod asking;
 mod hall;
 mod job_hall;
+mod replies;
 mod working;
 
 pub use asking::{close, collect, submit};
-pub use job_hall::{Collected, JobHall, Side, Taken, Tried};
+pub use job_hall::{AppliedCall, JobHall, Side, TakenJob, TakenOutcome};
+pub use replies::{drop_reply, taken_by, took_job, tried_by};
 pub use working::{apply, put, stop, take};

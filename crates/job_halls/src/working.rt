@@ -5,9 +5,9 @@ ghost use Rattle.streams.specs.declared.outcomes.Settled.{Settled};
 ghost use Rattle.host_model.specs.declared.key.Key.{Key};
 ghost use Rattle.machine_model.specs.HallRule as rule;
 ghost use Rattle.seat_booth.specs.Seats.{IsSeatOf};
-ghost use Rattle.job_halls.specs.Working.{AddsAsk, TakesJob, HoldsFound, TriesCall};
+ghost use Rattle.job_halls.specs.Working.{AddsWorkerAsk, TakesJob, HoldsFound, AppliesCall};
 
-use crate::job_hall::{JobHall, Taken, Tried};
+use crate::job_hall::{AppliedCall, JobHall, TakenJob};
 use call_rules::{Call, Key};
 use seat_booth::{Booth, Seat};
 use std::sync::Wait;
@@ -15,7 +15,7 @@ use streams::Settled;
 
 /// Takes the oldest job, where there is one.
 #[inline(always)]
-pub fn take<O: JobHall, R: Wait>(rt: &R, booth: &Booth<O>, seat: &mut Seat<O>) -> Taken
+pub fn take<O: JobHall, R: Wait>(rt: &R, booth: &Booth<O>, seat: &mut Seat<O>) -> TakenJob
     requires seat { IsSeatOf booth.now seat.old }
     requires hall { O.opened booth.now.opening }
     ensures seat { IsSeatOf booth.now seat.new }
@@ -36,12 +36,12 @@ pub fn apply<O: JobHall, R: Wait>(
     seat: &mut Seat<O>,
     key: Key,
     call: Call,
-) -> Tried
+) -> AppliedCall
     requires seat { IsSeatOf booth.now seat.old }
     requires may { O.may booth.now.opening seat.old.number seat.old.mine (O.the_apply key call) }
     ensures seat { IsSeatOf booth.now seat.new }
     ensures number { seat.new.number ≡ seat.old.number }
-    ensures applied { TriesCall (O.worker_asks seat.old.mine) (O.worker_asks seat.new.mine) key call result }
+    ensures applied { AppliesCall (O.worker_asks seat.old.mine) (O.worker_asks seat.new.mine) key call result }
     ensures held { (held : Key) (settled : Settled) → O.may booth.now.opening seat.old.number seat.old.mine (O.the_put held settled)
         → O.may booth.now.opening seat.new.number seat.new.mine (O.the_put held settled) }
 {
@@ -63,7 +63,7 @@ pub fn put<O: JobHall, R: Wait>(
     requires may { O.may booth.now.opening seat.old.number seat.old.mine (O.the_put key settled) }
     ensures seat { IsSeatOf booth.now seat.new }
     ensures number { seat.new.number ≡ seat.old.number }
-    ensures put { AddsAsk (O.worker_asks seat.old.mine) (O.worker_asks seat.new.mine) (rule.put key settled) rule.done }
+    ensures put { AddsWorkerAsk (O.worker_asks seat.old.mine) (O.worker_asks seat.new.mine) (rule.put key settled) rule.done }
 {
     let op = O::put_op(key, settled);
     let reply = booth.call(rt, seat, op);
@@ -77,7 +77,7 @@ pub fn stop<O: JobHall, R: Wait>(rt: &R, booth: &Booth<O>, seat: &mut Seat<O>)
     requires hall { O.opened booth.now.opening }
     ensures seat { IsSeatOf booth.now seat.new }
     ensures number { seat.new.number ≡ seat.old.number }
-    ensures closed { AddsAsk (O.worker_asks seat.old.mine) (O.worker_asks seat.new.mine) rule.close rule.done }
+    ensures closed { AddsWorkerAsk (O.worker_asks seat.old.mine) (O.worker_asks seat.new.mine) rule.close rule.done }
 {
     let op = O::close_op();
     let reply = booth.call(rt, seat, op);

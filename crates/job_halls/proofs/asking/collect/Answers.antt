@@ -1,6 +1,6 @@
 use Rattle.std.proofs.Common.{sym, subst}
 use Rattle.seat_booth.specs.Seats.{MakesCall}
-use Rattle.job_halls.specs.Asking.{CollectsOutcome}
+use Rattle.job_halls.specs.Asking.{GainsOutcome}
 use Rattle.job_halls.proofs.asking.collect.Goals as goal
 
 pub call-reply-requires-clause-may : goal.call-reply-requires-clause-may
@@ -16,7 +16,7 @@ returns-clause-fits g c =
 
 pub returns-clause-collected : goal.returns-clause-collected
 returns-clause-collected g c =
-    subst (CollectsOutcome (g.O.JobHall.asks c.args.side c.args.seat.now.mine) (g.O.JobHall.asks c.args.side c.call-reply.new.seat.mine)) (sym c.collected.ensures)
+    subst (GainsOutcome (g.O.JobHall.asks c.args.side c.args.seat.now.mine) (g.O.JobHall.asks c.args.side c.call-reply.new.seat.mine)) (sym c.collected.ensures)
     (g.met.O.JobHall.collects c.args.side c.args.booth.now c.args.seat.now c.call-reply.new.seat c.call-reply.result c.requires.hall c.requires.own c.requires.fits
     (subst (λ op. MakesCall g.O.Object.gives g.O.Object.may c.args.booth.now c.args.seat.now op c.call-reply.result c.call-reply.new.seat) c.collect_op-op.ensures c.call-reply.ensures.call)).0
 

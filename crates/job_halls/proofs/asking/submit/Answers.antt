@@ -1,6 +1,6 @@
 use Rattle.std.proofs.Common.{sym, subst}
 use Rattle.seat_booth.specs.Seats.{MakesCall}
-use Rattle.job_halls.specs.Asking.{SubmitsJob}
+use Rattle.job_halls.specs.Asking.{HandsInJob}
 use Rattle.job_halls.proofs.asking.submit.Goals as goal
 
 pub call-reply-requires-clause-may : goal.call-reply-requires-clause-may
@@ -16,7 +16,7 @@ returns-clause-fits g c =
 
 pub returns-clause-submitted : goal.returns-clause-submitted
 returns-clause-submitted g c =
-    subst (SubmitsJob (g.O.JobHall.asks c.args.side c.args.seat.now.mine) (g.O.JobHall.asks c.args.side c.call-reply.new.seat.mine) c.args.key c.args.payload) (sym c.took.ensures)
+    subst (HandsInJob (g.O.JobHall.asks c.args.side c.args.seat.now.mine) (g.O.JobHall.asks c.args.side c.call-reply.new.seat.mine) c.args.key c.args.payload) (sym c.took.ensures)
     (g.met.O.JobHall.submits c.args.side c.args.booth.now c.args.seat.now c.call-reply.new.seat c.args.key c.args.payload c.call-reply.result c.requires.hall c.requires.own c.requires.fits
     (subst (λ op. MakesCall g.O.Object.gives g.O.Object.may c.args.booth.now c.args.seat.now op c.call-reply.result c.call-reply.new.seat) c.submit_op-op.ensures c.call-reply.ensures.call)).0
 
