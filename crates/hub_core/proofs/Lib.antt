@@ -1,0 +1,2 @@
+pub mod HubSteps
+pub mod Turns

@@ -1,0 +1,5 @@
+pub mod Hub
+pub mod Following
+pub mod HubCalls
+pub mod HubLoop
+pub mod HubWork
