@@ -1,5 +1,5 @@
 -- Steps of a hall and of its lists are steps of the hub.
-use Rattle.std.proofs.Common.{◌≡◌, ◌≢◌, ℕ, ◌+◌, ◌<◌, ◌≤◌, ◌%◌, ◌⊎◌, Bool, true, false, ◌==◌, if◌then◌else◌, Option, None, Some, List, [], ◌∷◌, ◌++◌, map, length, get_or, set, refl, sym, ap, ◌∙◌, subst, inl, inr, ⊎_elim, arith, eq-eqb, ne_eqb, length-append, append-nil}
+use Rattle.std.proofs.Common.{◌≡◌, ◌≢◌, ℕ, ◌+◌, ◌<◌, ◌%◌, ◌⊎◌, Bool, true, false, if◌then◌else◌, Option, None, Some, List, [], ◌∷◌, ◌++◌, map, length, get_or, set, refl, sym, ap, ◌∙◌, subst, inl, inr, ⊎_elim, arith, eq-eqb, ne_eqb, length-append, append-nil}
 use Rattle.std.proofs.lemmas.Bool.{cases_eq, true≢false, false_from_ne_true}
 use Rattle.std.proofs.lemmas.List.{get_or-set_same, get_or-set_other}
 use Rattle.streams.specs.declared.outcomes.Settled.{Settled}
@@ -11,13 +11,13 @@ use Rattle.call_rules.specs.Handling.{ServiceState, handler_rules}
 use Rattle.machine_model.specs.HallState.{Job, JobOutcome, HallState, has_key, keys_in, without}
 use Rattle.machine_model.specs.OwnCalls.{most_connections, HallCan}
 use Rattle.machine_model.proofs.Keys.{has_left, has_right, has_either}
-use Rattle.machine_model.specs.HallRule.{HallOperation, submit, take_job, apply, close, HallAnswer, done, job, empty, is_closed, applied, no_memory, journal_fault, is_broken, outcome, outcome_of, KeepsCount, SubmitGives, TakeGives, TakesEffect, ApplyGives, CloseGives, HallGives}
+use Rattle.machine_model.specs.HallRule.{HallOperation, submit, take_job, apply, close, HallAnswer, done, job, empty, is_closed, applied, no_memory, journal_fault, is_broken, outcome, outcome_of, SubmitGives, TakeGives, TakesEffect, ApplyGives, CloseGives, HallGives}
 use Rattle.machine_model.specs.SeenHall.{MayHave, filled, SeenGives}
 use Rattle.hall_core.specs.Meant.{ServedHall}
-use Rattle.hub_model.specs.HubState.{HubState, loop_of_conn, list_keys, but_outcomes}
+use Rattle.hub_model.specs.HubState.{list_keys, but_outcomes}
 use Rattle.hub_model.specs.HubRule.{HubOperation, submit_from, take_one, apply_one, put_one, collect_for, close_all, with_list, HubGives}
 use Rattle.hub_model.specs.HubMay.{HubCan}
-use Rattle.hub_core.specs.Hub.{ServedHub, served_hub, loop_list, hub_filled, HubCollects}
+use Rattle.hub_core.specs.Hub.{served_hub, loop_list, hub_filled, HubCollects}
 
 -- there are entries that a journal may have
 some_entries : {X : Type 0} (told : Option (List X)) → (entries : List X) × MayHave told entries

@@ -1,5 +1,5 @@
 -- A booth's calls of a hub are a history of the model's hub, so what a seat may ask next the hub can do.
-use Rattle.std.proofs.Common.{◌≡◌, ℕ, ◌<◌, ◌%◌, Bool, true, false, cond, List, [], ◌∷◌, ◌++◌, map, length, refl, sym, ap, ◌∙◌, subst, eqb}
+use Rattle.std.proofs.Common.{◌≡◌, ℕ, ◌<◌, Bool, true, false, cond, List, [], ◌∷◌, ◌++◌, map, length, refl, sym, ap, ◌∙◌, subst, eqb}
 use Rattle.host_model.proofs.Lists.{nil-cons}
 use Rattle.call_rules.specs.PlainCalls.{PlainCall, PlainAnswer, empty}
 use Rattle.call_rules.specs.Entries.{CallEntry}

@@ -1,5 +1,5 @@
 -- Calls at a booth round a hub: what they are answered, and what a seat's calls are, as asks of the model's hub.
-use Rattle.std.proofs.Common.{◌≡◌, ℕ, ◌<◌, Bool, true, false, List, [], ◌∷◌, ◌++◌, map, length, refl, sym, ap, ◌∙◌, subst}
+use Rattle.std.proofs.Common.{◌≡◌, ℕ, ◌<◌, List, [], ◌∷◌, ◌++◌, map, length, refl, sym, ap, ◌∙◌, subst}
 use Rattle.std.proofs.lemmas.List.{map-append}
 use Rattle.host_model.specs.Journal.{ServiceRules}
 use Rattle.call_history.specs.History.{seat_call, meaning_after, IsHistory}

@@ -1,21 +1,19 @@
 -- A hub as one of its loops asks it: what is seen of its calls at a booth is what a loop asks of a hall of its own.
-use Rattle.std.proofs.Common.{◌≡◌, ℕ, ◌+◌, ◌*◌, ◌/◌, ◌%◌, ◌<◌, ◌^◌, Bool, true, false, ◌==◌, if◌then◌else◌, List, [], ◌∷◌, ◌++◌, map, length, refl, sym, ap, ◌∙◌, subst, eq-eqb}
+use Rattle.std.proofs.Common.{◌≡◌, ℕ, ◌+◌, ◌*◌, ◌<◌, ◌^◌, Bool, ◌==◌, if◌then◌else◌, List, [], ◌∷◌, ◌++◌, map, length, refl, sym, ap, ◌∙◌, subst, eq-eqb}
 use Rattle.std.proofs.lemmas.Nat.{div-mul-add}
 use Rattle.host_model.specs.declared.key.Key.{Key}
-use Rattle.call_history.specs.declared.seat_call.SeatCall.{SeatCall}
 use Rattle.call_history.specs.Calls.{seat_ask, calls_by, asks_of}
 use Rattle.call_rules.specs.PlainCalls.{PlainCall, PlainAnswer, empty as no_answer}
-use Rattle.call_rules.specs.Handling.{ServiceState, handler_rules}
+use Rattle.call_rules.specs.Handling.{handler_rules}
 use Rattle.machine_model.specs.HallState.{key_of}
 use Rattle.machine_model.specs.HallRule.{HallOperation, submit, collect, close, HallAnswer, done}
 use Rattle.machine_model.specs.OwnLoop.{CollectsItsOwn}
-use Rattle.machine_model.specs.SeenHall.{MayHave}
 use Rattle.seat_booth.specs.Seats.{BoothView, MakesCall}
 use Rattle.hall_core.specs.declared.operation.HallReply.{HallReply}
 use Rattle.hall_core.specs.declared.operation.HallReply.TheVariants as reply
 use Rattle.hall_core.specs.Asked.{answer_of}
 use Rattle.hub_model.specs.HubState.{own_key, whole_key}
-use Rattle.hub_model.specs.HubRule.{HubOperation, submit_from, HubAsk}
+use Rattle.hub_model.specs.HubRule.{submit_from, HubAsk}
 use Rattle.hub_model.specs.HubMay.{SubmitOwn, HubMay, share}
 use Rattle.hub_model.specs.Seen.{own_answer, seen_ask, seen_seat, asks_with, seen_asks}
 use Rattle.hub_model.specs.Talk.{IsOfLoop, AsksAsLoop}

@@ -7,10 +7,10 @@ use Rattle.host_model.specs.declared.key.Key.{Key}
 use Rattle.host_model.specs.Journal.{JournalEntry}
 use Rattle.call_history.specs.History.{meaning_after, IsHistory}
 use Rattle.call_history.specs.Calls.{seat_ask, calls_by, asks_of, AllAllowed}
-use Rattle.call_rules.specs.PlainCalls.{PlainCall, PlainAnswer, IsPlainCall, empty as no_answer}
+use Rattle.call_rules.specs.PlainCalls.{PlainCall, PlainAnswer, empty as no_answer}
 use Rattle.call_rules.specs.Handling.{ServiceState, handler_rules}
 use Rattle.machine_model.specs.HallState.{HallState, IsNewlyOpened}
-use Rattle.machine_model.specs.HallRule.{HallOperation, take_job, apply, put, close, HallAnswer, done, job, job_of, HallGives}
+use Rattle.machine_model.specs.HallRule.{HallOperation, take_job, apply, put, close, HallAnswer, done, job, HallGives}
 use Rattle.machine_model.specs.OwnCalls.{HallCall, HallAsk, longest_payload, any_of, applies_key, HallMay}
 use Rattle.machine_model.specs.Merge.{GoesOnAfter, StopsAfter}
 use Rattle.machine_model.proofs.Keys.{is_same_self}
@@ -20,7 +20,7 @@ use Rattle.hall_core.specs.declared.operation.HallReply.{HallReply}
 use Rattle.hall_core.specs.declared.operation.HallReply.TheVariants as reply
 use Rattle.hall_core.specs.Asked.{answer_of}
 use Rattle.hub_model.specs.HubState.{HubState, loop_of_conn, own_key}
-use Rattle.hub_model.specs.HubRule.{take_one, apply_one, HubAsk, HubCall}
+use Rattle.hub_model.specs.HubRule.{take_one, apply_one, HubAsk}
 use Rattle.hub_model.specs.HubMay.{hub_held_after, hub_holds_from, applies_this, any_ask}
 use Rattle.hub_model.specs.Seen.{replays, seen_part, own_entries, seen_seat, asks_with, seen_asks, seen_calls}
 use Rattle.hub_model.proofs.Opening.{opens}
@@ -28,8 +28,6 @@ use Rattle.hub_model.proofs.AsksSeen.{seen_append, by_seat, applies_seen, asks_s
 use Rattle.hub_model.proofs.Allowing.{all_places, all_allowed}
 use Rattle.hub_model.proofs.Seeing.{sees}
 use Rattle.job_halls.specs.declared.job_hall.TakenJob.{TakenJob}
-use Rattle.job_halls.specs.declared.job_hall.TakenJob.TheVariants.{Found, Empty, Closed}
-use Rattle.job_halls.specs.declared.job_hall.AppliedCall.{AppliedCall}
 use Rattle.job_halls.specs.Working.{WorkerAsk, AddsWorkerAsk, TakesJob, AppliesCall, HoldsItsJob, HoldsFound}
 use Rattle.job_halls.specs.Shortness.{taken_short}
 use Rattle.job_halls.specs.HallWork.{taken_reply, tried_reply}

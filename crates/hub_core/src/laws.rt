@@ -1,6 +1,6 @@
 //! What holds of calls of a hub, whoever makes them: the contracts of functions that do nothing.
 
-ghost use Rattle.std.specs.Prelude.{◌≡◌, ℕ, List, [], map, length};
+ghost use Rattle.std.specs.Prelude.{◌≡◌, List, [], map, length};
 ghost use Rattle.std.specs.List.{flat_map};
 ghost use Rattle.host_model.specs.DeskRules.{DeskRules};
 ghost use Rattle.call_history.specs.History.{meaning_after, IsHistory};

@@ -1,7 +1,5 @@
 //! A hall as such an object: of one loop, which has number 0.
 
-ghost use Rattle.std.specs.Prelude.{◌≡◌};
-
 use crate::job_hall::{AppliedCall, JobHall, Side, TakenJob, TakenOutcome};
 use crate::replies::{drop_reply, taken_by, took_job, tried_by};
 use call_rules::{Call, Handler, Journal, Key};

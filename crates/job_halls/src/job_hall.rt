@@ -1,9 +1,9 @@
 //! The trait of an object that hands out jobs.
 
-ghost use Rattle.std.specs.Prelude.{◌≡◌, ℕ, Bool, List, [], ◌∷◌, ◌++◌, ◌<◌};
+ghost use Rattle.std.specs.Prelude.{◌≡◌, ℕ, Bool, List, []};
 ghost use Rattle.streams.specs.declared.outcomes.Settled.{Settled};
 ghost use Rattle.host_model.specs.declared.key.Key.{Key};
-ghost use Rattle.call_rules.specs.PlainCalls.{PlainCall, IsPlainCall};
+ghost use Rattle.call_rules.specs.PlainCalls.{PlainCall};
 ghost use Rattle.call_history.specs.declared.seat_call.SeatCall.{SeatCall};
 ghost use Rattle.seat_booth.specs.Seats.{BoothView, SeatView, MakesCall};
 ghost use Rattle.machine_model.specs.HallRule as rule;

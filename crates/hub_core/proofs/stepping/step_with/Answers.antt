@@ -1,4 +1,4 @@
-use Rattle.std.proofs.Common.{◌≡◌, ◌%◌, ◌<◌, List, [], ◌∷◌, ◌++◌, length, get_or, set, sym, subst}
+use Rattle.std.proofs.Common.{◌≡◌, ◌<◌, [], ◌∷◌, ◌++◌, length, get_or, set, sym, subst}
 use Rattle.machine_model.specs.HallRule.{submit, take_job, apply, close, outcome_of}
 use Rattle.hall_core.specs.Asked.{answer_of}
 use Rattle.hub_core.specs.Hub.{served_hub, HubStepGives, HubStepCan}
